@@ -1,0 +1,5 @@
+pub mod Scanning
+pub mod Leaves
+pub mod Quoting
+pub mod Headers
+pub mod Strings

@@ -1,0 +1,35 @@
+use borrow.Author.Needs.{needs}
+use Rattle.table.proofs.Bounds.{modest, after}
+use Rattle.table.proofs.Depth.{bare, skim-does, skim-link-stop, skim-link-done}
+use Rattle.table.proofs.Sequence.{room-took, few-took}
+use mathlib.Core.List.{[]}
+use mathlib.Core.Path.{refl}
+use native.Mathlib.Omega.{arith}
+use Rattle.lists.proofs.then_char.Statement.{statement}
+use Rattle.lists.proofs.then_char.Tie as tie
+
+enum-known-r : tie.Need-enum-known-r
+enum-known-r c = search needs
+
+returns : tie.Need-returns
+returns c = skim-link-stop (c .match .keys2)
+
+char-requires : tie.Need-char-requires
+char-requires c κs = room-took (c .before .before .before .before .pre) (c .before .r .given .1)
+
+add-nodes-requires : tie.Need-add-nodes-requires
+unfolding modest bare
+add-nodes-requires c κs = omega (arith, few-took (c .before .before .before .before .before .pre) (c .before .before .r .given .1), after tt (room-took (c .before .before .before .before .before .pre) (c .before .before .r .given .1)) (skim-does {d = 0} [] tt (c .char .ensures)) .few)
+
+returns-2 : tie.Need-returns-2
+returns-2 c = skim-link-done (c .before .before .before .r .given .1) (c .before .char .ensures) (c .add-nodes .ensures)
+
+pub then-char-spec : {M : Type 1} → statement M
+then-char-spec =
+    tie.close
+    (tie.spec
+    enum-known-r
+    returns
+    char-requires
+    add-nodes-requires
+    returns-2)

@@ -1,0 +1,54 @@
+use borrow.Author.Needs.{needs}
+use Prim.Native.Nat.{_+_, _-_}
+use lib.ListN.{length}
+use Rattle.sets_samples.proofs.prefixes.Statement.{statement}
+use Rattle.sets_samples.proofs.prefixes.Tie as tie
+
+abbrev Inv-loop : tie.InvT-loop
+Inv-loop rule s n₀ n = Unit {0}
+
+abbrev μ-loop : tie.MeasureT-loop
+μ-loop rule s n₀ n = length s + 1 - n
+
+loop-holds : tie.Need-loop-holds Inv-loop μ-loop
+loop-holds c = search needs
+
+sub-cut : tie.Need-sub-cut Inv-loop μ-loop
+sub-cut c = search needs
+
+part-cut-start : tie.Need-part-cut-start Inv-loop μ-loop
+part-cut-start c = search needs
+
+part-cut-end : tie.Need-part-cut-end Inv-loop μ-loop
+part-cut-end c = search needs
+
+cut-requires : tie.Need-cut-requires Inv-loop μ-loop
+cut-requires c κs = search needs
+
+add-n : tie.Need-add-n Inv-loop μ-loop
+add-n c = search needs
+
+loop-less : tie.Need-loop-less Inv-loop μ-loop
+loop-less c = search needs
+
+loop-again : tie.Need-loop-again Inv-loop μ-loop
+loop-again c = search needs
+
+returns : tie.Need-returns Inv-loop μ-loop
+returns c = search needs
+
+pub prefixes-spec : {M : Type 1} → statement M
+prefixes-spec =
+    tie.close
+    (tie.spec
+    Inv-loop
+    μ-loop
+    loop-holds
+    sub-cut
+    part-cut-start
+    part-cut-end
+    cut-requires
+    add-n
+    loop-less
+    loop-again
+    returns)

@@ -1,0 +1,10 @@
+pub mod Answers
+pub mod Length
+pub mod Sequence
+pub mod Structure
+pub mod Depth
+pub mod Bounds
+pub mod Trees
+pub mod Lists
+pub mod Words
+pub mod Determined

@@ -1,0 +1,97 @@
+-- The code's answers, and what the table's functions do to a table.
+use Prim.Native.Nat.{ℕ, _+_, _*_, _/_}
+use mathlib.Core.List.{List, _∷_, _++_}
+use lib.ListN.{length, take, drop, getD}
+use lib.Dec.{leb}
+use Rattle.grammar.specs.Forest.{Forest, none, tree, size, count}
+use Rattle.grammar.specs.Out.{Out, took, more, refused, deep, pick}
+use Rattle.grammar.specs.Kinds.{kind-list}
+use Rattle.table.specs.declared.Step.{Step}
+use Rattle.table.specs.declared.Step.the-variants.{Took, More, Refused, Deep}
+
+-- answers ----------------------------------------------------------------------------------------------------------
+
+-- what the code answers where the definition finds o: the nodes are counted
+abbrev pub as-step : Out → Step
+as-step (took end f) = Took end (size f)
+as-step (more wanted) = More wanted
+as-step refused = Refused
+as-step deep = Deep
+
+abbrev pub nodes-of : Step → ℕ
+nodes-of (Took next nodes) = nodes
+nodes-of (More wanted) = 0
+nodes-of Refused = 0
+nodes-of Deep = 0
+
+abbrev pub next-of : Step → ℕ
+next-of (Took next nodes) = next
+next-of (More wanted) = 0
+next-of Refused = 0
+next-of Deep = 0
+
+-- go on from what r took; whatever else it is ends the reading
+abbrev pub go-on : Step → (ℕ → ℕ → Step) → Step
+go-on (Took next nodes) k = k next nodes
+go-on (More wanted) k = More wanted
+go-on Refused k = Refused
+go-on Deep k = Deep
+
+abbrev pub add-nodes : ℕ → Step → Step
+add-nodes n (Took next nodes) = Took next (nodes + n)
+add-nodes n (More wanted) = More wanted
+add-nodes n Refused = Refused
+add-nodes n Deep = Deep
+
+-- the table --------------------------------------------------------------------------------------------------------
+
+-- where the words after n nodes begin in a table of len words, or its end
+unfoldable pub skip-to : ℕ → ℕ → ℕ
+skip-to len n = pick (leb n (len / 4)) (λ u. 4 * n) (λ u. len)
+
+-- a node's words at the front of t, if t has room for them
+unfoldable pub over : ℕ → ℕ → ℕ → ℕ → List ℕ → List ℕ
+over kind a b n t = pick (leb 4 (length t)) (λ u. kind ∷ a ∷ b ∷ n ∷ drop 4 t) (λ u. t)
+
+-- the table with its rest, from n nodes on, as f leaves it
+unfoldable pub onward : ℕ → (List ℕ → List ℕ) → List ℕ → List ℕ
+onward n f t = take (skip-to (length t) n) t ++ f (drop (skip-to (length t) n) t)
+
+-- what is done to the table once the code has an answer: if it took something; if it failed; or either
+abbrev pub then-table : Step → List ℕ → (ℕ → ℕ → List ℕ) → List ℕ
+then-table (Took next nodes) t k = k next nodes
+then-table (More wanted) t k = t
+then-table Refused t k = t
+then-table Deep t k = t
+
+abbrev pub else-table : Step → List ℕ → (Unit {0} → List ℕ) → List ℕ
+else-table (Took next nodes) t k = t
+else-table (More wanted) t k = t
+else-table Refused t k = k tt
+else-table Deep t k = t
+
+-- a parent's words, once its children are read
+abbrev pub parent-table : ℕ → ℕ → Step → List ℕ → List ℕ
+parent-table kind at r t = then-table r t (λ next nodes. over kind at next (nodes + 1) t)
+
+-- a list's words, once its items are read
+abbrev pub list-table : Out → List ℕ → List ℕ
+list-table (took end f) t = over kind-list (count f) 0 (size f + 1) t
+list-table (more wanted) t = t
+list-table refused t = t
+list-table deep t = t
+
+-- the first node's words with another start, end and number of nodes, if t has room for a node
+unfoldable pub rehead : ℕ → ℕ → ℕ → List ℕ → List ℕ
+rehead start end n t = pick (leb 4 (length t)) (λ u. getD t 0 0 ∷ start ∷ end ∷ n ∷ drop 4 t) (λ u. t)
+
+abbrev pub head-table : ℕ → Step → List ℕ → List ℕ
+head-table at r t = then-table r t (λ next nodes. rehead at next nodes t)
+
+-- one node that was read without the table
+abbrev pub lay : Out → List ℕ → List ℕ
+lay (took end none) t = t
+lay (took end (tree kind a b below after)) t = over kind a b 1 t
+lay (more wanted) t = t
+lay refused t = t
+lay deep t = t
