@@ -5,12 +5,14 @@
 
 use table::Step;
 ghost use mathlib.Core.Path.{_≡_};
+ghost use mathlib.Core.List.{[], _∷_};
 ghost use Prim.Native.Nat.{ℕ, _≤_};
 ghost use lib.ListN.{length};
 ghost use Rattle.grammar.specs.Rules.{rule};
 ghost use Rattle.grammar.specs.Reading.{deepest-level, last-rule};
 ghost use Rattle.table.specs.Promise.{Room, Does};
 ghost use Rattle.reader.specs.Answers.{Answers};
+ghost use Rattle.reader.specs.Exports.{in-front, Reports, Shows};
 
 // What a reading answers. specs/Answers.antt gives document 01's numbers for each case.
 pub enum Answer {
@@ -132,5 +134,62 @@ pub fn read(number: u32, s: &[u8], t: &mut [u32]) -> Answer
         Step::More(wanted) => Answer::Unfinished { wanted },
         Step::Refused => Answer::NotTheGrammar,
         Step::Deep => Answer::TooDeep,
+    }
+}
+
+// ----- for other languages: numbers and slices only (include/elbomavund.h) -----
+
+// The four numbers to the front of the caller's words, if there is room for all four.
+fn put_numbers(out: &mut [u64], answer: u32, taken: usize, nodes: usize, wanted: usize) -> u32
+    ensures { λ r. ⌜ r ≡ answer ⌝ }
+    ensures { λ r. ⌜ now (out .exit) ≡ in-front (answer ∷ taken ∷ nodes ∷ wanted ∷ []) (now (out .entry)) ⌝ }
+{
+    if 4 <= out.len() {
+        out[0] = answer as u64;
+        out[1] = taken as u64;
+        out[2] = nodes as u64;
+        out[3] = wanted as u64;
+    }
+    answer
+}
+
+// A part's offset and length, in the same way.
+fn put_part(out: &mut [u64], answer: u32, offset: usize, len: usize) -> u32
+    ensures { λ r. ⌜ r ≡ answer ⌝ }
+    ensures { λ r. ⌜ now (out .exit) ≡ in-front (offset ∷ len ∷ []) (now (out .entry)) ⌝ }
+{
+    if 2 <= out.len() {
+        out[0] = offset as u64;
+        out[1] = len as u64;
+    }
+    answer
+}
+
+// `read`, with document 01's numbers: the answer is returned, and all four go to the first four words of out.
+#[no_mangle]
+pub extern "C" fn elbomavund_read(number: u32, s: &[u8], t: &mut [u32], out: &mut [u64]) -> u32
+    ensures { λ r. ⌜ Reports number (now (s .entry)) (now (t .entry)) (now (out .entry)) r (now (t .exit)) (now (out .exit)) ⌝ }
+{
+    let answer = read(number, s, t);
+    match answer {
+        Answer::Accepted { taken, nodes } => put_numbers(out, 0, taken, nodes, 0),
+        Answer::Unfinished { wanted } => put_numbers(out, 1, 0, 0, wanted),
+        Answer::NotTheGrammar => put_numbers(out, 2, 0, 0, 0),
+        Answer::TooDeep => put_numbers(out, 3, 0, 0, 0),
+        Answer::NoRoom { nodes } => put_numbers(out, 4, 0, nodes, 0),
+        Answer::UnknownRule => put_numbers(out, 5, 0, 0, 0),
+        Answer::TooLong => put_numbers(out, 6, 0, 0, 0),
+    }
+}
+
+// The part of a buffer of len bytes that a node names: 0 or 7 is returned, offset and length go to the first two words of out.
+#[no_mangle]
+pub extern "C" fn elbomavund_view(len: usize, t: &[u32], node: usize, out: &mut [u64]) -> u32
+    ensures { λ r. ⌜ Shows len (now (t .entry)) node (now (out .entry)) r (now (out .exit)) ⌝ }
+{
+    let part = views::part_at(len, t, node);
+    match part {
+        views::Part::Found { start, end } => put_part(out, 0, start, end - start),
+        views::Part::Missing => put_part(out, 7, 0, 0),
     }
 }
