@@ -97,27 +97,21 @@ fn once(number: u32, s: &[u8], t: &mut [u32]) -> Step
     requires { ⌜ (1 ≤ number) × (number ≤ last-rule) ⌝ }
     ensures { λ r. ⌜ Does deepest-level (rule number) (now (s .entry)) 0 r (now (t .entry)) (now (t .exit)) ⌝ }
 {
-    if number <= 7 {
-        return string_rules(number, s, t);
+    match number {
+        1..=7 => string_rules(number, s, t),
+        8..=14 => structure_rules(number, s, t),
+        15..=19 => code_rules(number, s, t),
+        _ => attribute_rules(number, s, t),
     }
-    if number <= 14 {
-        return structure_rules(number, s, t);
-    }
-    if number <= 19 {
-        return code_rules(number, s, t);
-    }
-    attribute_rules(number, s, t)
 }
 
 // ----- the reading -----
 
-// Reads the buffer's beginning by the rule with this number. The nodes' words are written to the table's beginning.
-pub fn read(number: u32, s: &[u8], t: &mut [u32]) -> Answer
+// A reading by a rule that there is: the length, then the two passes.
+fn read_known(number: u32, s: &[u8], t: &mut [u32]) -> Answer
+    requires { ⌜ (1 ≤ number) × (number ≤ last-rule) ⌝ }
     ensures { λ r. ⌜ Answers number (now (s .entry)) (now (t .entry)) r (now (t .exit)) ⌝ }
 {
-    if number < 1 || 25 < number {
-        return Answer::UnknownRule;
-    }
     if 16777216 < s.len() {
         return Answer::TooLong;
     }
@@ -134,6 +128,16 @@ pub fn read(number: u32, s: &[u8], t: &mut [u32]) -> Answer
         Step::More(wanted) => Answer::Unfinished { wanted },
         Step::Refused => Answer::NotTheGrammar,
         Step::Deep => Answer::TooDeep,
+    }
+}
+
+// Reads the buffer's beginning by the rule with this number. The nodes' words are written to the table's beginning.
+pub fn read(number: u32, s: &[u8], t: &mut [u32]) -> Answer
+    ensures { λ r. ⌜ Answers number (now (s .entry)) (now (t .entry)) r (now (t .exit)) ⌝ }
+{
+    match number {
+        1..=25 => read_known(number, s, t),
+        _ => Answer::UnknownRule,
     }
 }
 
