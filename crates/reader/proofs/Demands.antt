@@ -12,10 +12,11 @@ use Rattle.grammar.specs.Reading.{Result, result-at, result, deepest-level, len
 use Rattle.grammar.proofs.Bounds.{Proper, result-proper}
 use Rattle.grammar.proofs.Demand3.{SameAnswer, second-sentence-fewer, second-sentence-all, second-sentence-complete}
 use Rattle.grammar.proofs.Demand3 as Definition
-use Rattle.grammar.proofs.NotEmpty.{Reads, Meets}
+use Rattle.grammar.proofs.NotEmpty.{Meets, constant-answer, refuses-everything, forever-unfinished, never-writes, invents-taken, invents-nodes, invents-wanted}
 use Rattle.reader.specs.declared.Answer.{Answer}
 use Rattle.reader.specs.declared.Answer.the-variants.{Accepted, Unfinished, NotTheGrammar, TooDeep, NoRoom, UnknownRule, TooLong}
 use Rattle.reader.specs.Answers.{numbered, Answers}
+use Rattle.reader.proofs.Passes.{table-numbered}
 
 -- 1. "Whatever bytes the server sends, each reading ends with one of document 01's numbered answers and stays inside the lent
 -- buffer. An unfinished or refused reading returns the numbers fixed there and changes no word of the lent node table. The
@@ -101,15 +102,6 @@ back-numbered (NoRoom nodes) t = refl
 back-numbered UnknownRule t = refl
 back-numbered TooLong t = refl
 
-table-numbered : (r : Answer) (t : List ℕ) → t ≡ numbered r t .table
-table-numbered (Accepted taken nodes) t = refl
-table-numbered (Unfinished wanted) t = refl
-table-numbered NotTheGrammar t = refl
-table-numbered TooDeep t = refl
-table-numbered (NoRoom nodes) t = refl
-table-numbered UnknownRule t = refl
-table-numbered TooLong t = refl
-
 pub one-answer : {n : ℕ} {s t t₁ t₂ : List ℕ} {r r′ : Answer} → Answers n s t r t₁ → Answers n s t r′ t₂ → (r ≡ r′) × (t₁ ≡ t₂)
 one-answer {t₁ = t₁} {t₂} {r} {r′} p q =
     let same : numbered r t₁ ≡ numbered r′ t₂ = p .is ∙ sym (q .is) in (
@@ -117,8 +109,44 @@ one-answer {t₁ = t₁} {t₂} {r} {r′} p q =
       table-numbered r t₁ ∙ ap (λ (y : Result). y .table) same ∙ sym (table-numbered r′ t₂),
     )
 
--- so a reader with this promise meets the definition, and the wrong readers that document 01 names do not have it:
--- crates/grammar/proofs/NotEmpty.antt, `constant-answer` and what follows it
+-- the wrong readers that document 01 names do not meet the promise -----------------------------------------------------------
+
+-- a reader that keeps the promise meets the definition
 pub meets : (answer : ℕ → List ℕ → List ℕ → Answer) (after : ℕ → List ℕ → List ℕ → List ℕ)
     → ((n : ℕ) (s t : List ℕ) → Answers n s t (answer n s t) (after n s t)) → Meets (λ n s t. numbered (answer n s t) (after n s t))
 meets answer after p n s t = p n s t .is
+
+-- "Demand 2 shuts out a reader that refuses everything, one with a constant answer, one that never writes the table, and one that
+-- invents taken, nodes or wanted"; "Forever unfinished breaks the zero byte clause too." No reader that keeps the promise
+module _ (answer : ℕ → List ℕ → List ℕ → Answer) (after : ℕ → List ℕ → List ℕ → List ℕ)
+    (kept : (n : ℕ) (s t : List ℕ) → Answers n s t (answer n s t) (after n s t)) where
+  abbrev answers : ℕ → List ℕ → List ℕ → Result
+  answers n s t = numbered (answer n s t) (after n s t)
+
+  -- refuses everything,
+  pub not-refusing : ((n : ℕ) (s t : List ℕ) → answers n s t .answer ≡ 2) → ⊥
+  not-refusing same = refuses-everything answers same (meets answer after kept)
+
+  -- has a constant answer,
+  pub not-constant : (a : ℕ) → ((n : ℕ) (s t : List ℕ) → answers n s t .answer ≡ a) → ⊥
+  not-constant a same = constant-answer answers a same (meets answer after kept)
+
+  -- is unfinished for ever,
+  pub not-for-ever : ((n : ℕ) (s t : List ℕ) → answers n s t .answer ≡ 1) → ⊥
+  not-for-ever same = forever-unfinished answers same (meets answer after kept)
+
+  -- never writes the table,
+  pub not-idle : ((n : ℕ) (s t : List ℕ) → after n s t ≡ t) → ⊥
+  not-idle same =
+      never-writes answers (λ n s t. sym (table-numbered (answer n s t) (after n s t)) ∙ same n s t) (meets answer after kept)
+
+  -- or invents taken, nodes or wanted, in any call.
+  module _ (n : ℕ) (s t : List ℕ) where
+    pub no-other-taken : (answers n s t .taken ≡ result n s t .taken → ⊥) → ⊥
+    no-other-taken h = invents-taken answers n s t h (meets answer after kept)
+
+    pub no-other-nodes : (answers n s t .nodes ≡ result n s t .nodes → ⊥) → ⊥
+    no-other-nodes h = invents-nodes answers n s t h (meets answer after kept)
+
+    pub no-other-wanted : (answers n s t .wanted ≡ result n s t .wanted → ⊥) → ⊥
+    no-other-wanted h = invents-wanted answers n s t h (meets answer after kept)

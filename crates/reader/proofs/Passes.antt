@@ -24,6 +24,16 @@ use Rattle.reader.specs.declared.Answer.{Answer}
 use Rattle.reader.specs.declared.Answer.the-variants.{Accepted, Unfinished, NotTheGrammar, TooDeep, NoRoom, UnknownRule, TooLong}
 use Rattle.reader.specs.Answers.{numbered, Answers}
 
+-- the table is the result's, whatever the answer
+pub table-numbered : (r : Answer) (t : List ℕ) → t ≡ numbered r t .table
+table-numbered (Accepted taken nodes) t = refl
+table-numbered (Unfinished wanted) t = refl
+table-numbered NotTheGrammar t = refl
+table-numbered TooDeep t = refl
+table-numbered (NoRoom nodes) t = refl
+table-numbered UnknownRule t = refl
+table-numbered TooLong t = refl
+
 -- the checks before a reading, passed
 pub record Known (n : ℕ) (s : List ℕ) : Type 0 where
   pub from : 1 ≤ n

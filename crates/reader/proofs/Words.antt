@@ -11,9 +11,9 @@ use Rattle.grammar.specs.Reading.{result}
 use Rattle.views.specs.View.{part-at, answer-of, offset-of, length-of}
 use Rattle.views.specs.declared.Part.{Part}
 use Rattle.reader.specs.declared.Answer.{Answer}
-use Rattle.reader.specs.declared.Answer.the-variants.{Accepted, Unfinished, NotTheGrammar, TooDeep, NoRoom, UnknownRule, TooLong}
 use Rattle.reader.specs.Answers.{Answers, numbered}
 use Rattle.reader.specs.Exports.{in-front, numbers, Reports, Shows}
+use Rattle.reader.proofs.Passes.{table-numbered}
 
 -- written one after another
 pub written : (numbers out : List ℕ) → length numbers ≤ length out → sets out 0 numbers ≡ in-front numbers out
@@ -25,15 +25,6 @@ pub not-written : (numbers out : List ℕ) → length out < length numbers → o
 unfolding in-front
 not-written numbers out h = rw (lt-leb _ _ h) refl
 
-same-table : (b : Answer) (t : List ℕ) → t ≡ numbered b t .table
-same-table (Accepted taken nodes) t = refl
-same-table (Unfinished wanted) t = refl
-same-table NotTheGrammar t = refl
-same-table TooDeep t = refl
-same-table (NoRoom nodes) t = refl
-same-table UnknownRule t = refl
-same-table TooLong t = refl
-
 -- what is answered, by one of its cases, and written to the caller's words
 pub reports : {n r : ℕ} {s t t′ out out′ : List ℕ} {a : Answer} (b : Answer) → Answers n s t a t′ → a ≡ b → r ≡ numbered b t′ .answer
     → out′ ≡ in-front (numbers (numbered b t′)) out → Reports n s t out r t′ out′
@@ -41,7 +32,7 @@ reports {n} {r} {s} {t} {t′} {out} {out′} b answers is answer words =
     let e : numbered b t′ ≡ result n s t = subst (λ a. numbered a t′ ≡ result n s t) is (answers .is) in
     record {
       answer = answer ∙ ap (λ x. x .answer) e;
-      table = same-table b t′ ∙ ap (λ x. x .table) e;
+      table = table-numbered b t′ ∙ ap (λ x. x .table) e;
       words = words ∙ ap (λ x. in-front (numbers x) out) e;
     }
 
