@@ -1053,3 +1053,16 @@ pub fn damaged(rng: &mut Rng, s: &[u8]) -> Vec<u8> {
     }
     out
 }
+
+/// Lines of RULE HEX; what follows, and lines that begin otherwise, are not looked at.
+pub fn responses(file: &str) -> Vec<(u32, Vec<u8>)> {
+    let text = std::fs::read_to_string(file).unwrap_or_else(|e| panic!("{file}: {e}"));
+    let line = |l: &str| {
+        let mut words = l.split_whitespace();
+        let rule = words.next()?.parse().ok()?;
+        let hex = words.next()?;
+        let bytes = (0..hex.len() / 2).map(|i| u8::from_str_radix(&hex[2 * i..2 * i + 2], 16).ok()).collect::<Option<_>>()?;
+        Some((rule, bytes))
+    };
+    text.lines().filter_map(line).collect()
+}

@@ -467,7 +467,7 @@ fn main() {
     let mut args = std::env::args().skip(1);
     while let Some(a) = args.next() {
         if a == "--responses" {
-            responses = read_responses(&args.next().unwrap_or_else(|| fail()));
+            responses = make::responses(&args.next().unwrap_or_else(|| fail()));
             continue;
         }
         let mut number = || args.next().and_then(|v| v.replace('_', "").parse::<u64>().ok()).unwrap_or_else(|| fail());
@@ -489,19 +489,6 @@ fn main() {
     let thread = std::thread::Builder::new().stack_size(1 << 29).spawn(move || run(seconds, inputs, seed, responses)).unwrap();
     let code = thread.join().unwrap_or(2);
     std::process::exit(code);
-}
-
-/// Lines of RULE HEX; what follows, and lines that begin otherwise, are not looked at.
-fn read_responses(file: &str) -> Vec<(u32, Vec<u8>)> {
-    let text = std::fs::read_to_string(file).unwrap_or_else(|e| panic!("{file}: {e}"));
-    let line = |l: &str| {
-        let mut words = l.split_whitespace();
-        let rule = words.next()?.parse().ok()?;
-        let hex = words.next()?;
-        let bytes = (0..hex.len() / 2).map(|i| u8::from_str_radix(&hex[2 * i..2 * i + 2], 16).ok()).collect::<Option<_>>()?;
-        Some((rule, bytes))
-    };
-    text.lines().filter_map(line).collect()
 }
 
 fn fail() -> ! {
