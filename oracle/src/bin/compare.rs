@@ -14,7 +14,7 @@ compare [--seconds N] [--inputs N] [--seed N] [--responses FILE]
   --seconds N   stop after so many seconds (55 if neither is given)
   --inputs N    stop after so many inputs; the run is then the same each time
   --seed N      begins the made inputs (1)
-  --responses FILE   begin with these too, their cuts and damaged copies: lines of RULE HEX, then anything
+  --responses FILE   these too, their cuts, damaged copies and all that is one byte away: lines of RULE HEX, then anything
 Exits 1 if a difference is found that docs/DIFFERENCES.md does not name.";
 
 /// A kind of difference: why, what our side says, what the Rust says.
@@ -366,7 +366,8 @@ fn run(seconds: Option<u64>, inputs: Option<u64>, seed: u64, responses: Vec<(u32
     let mut rng = Rng(seed);
     let until = |r: &Run| inputs.is_some_and(|n| r.inputs >= n) || seconds.is_some_and(|n| begun.elapsed().as_secs() >= n);
     let mut turns = Turns { sources: vec![], at: 0 };
-    for source in make::exhaustive().into_iter().chain(make::near()) {
+    let real = responses.iter().map(|(rule, s)| Source::Near { rule: *rule, seed: s.clone() });
+    for source in make::exhaustive().into_iter().chain(make::near()).chain(real) {
         let len = source.len();
         turns.sources.push((source, 0, len));
     }
@@ -397,7 +398,7 @@ fn run(seconds: Option<u64>, inputs: Option<u64>, seed: u64, responses: Vec<(u32
     if !responses.is_empty() {
         println!("{} inputs from {} responses", r.inputs - before, responses.len());
     }
-    println!("{fixed} exhaustive ones and neighbours of seeds, mixed with made ones");
+    println!("{fixed} exhaustive ones and neighbours of chosen and real ones, mixed with made ones");
     let mut left = true;
     while !until(&r) {
         // exhaustive ones
@@ -467,7 +468,7 @@ fn main() {
     let mut args = std::env::args().skip(1);
     while let Some(a) = args.next() {
         if a == "--responses" {
-            responses = make::responses(&args.next().unwrap_or_else(|| fail()));
+            responses.extend(make::responses(&args.next().unwrap_or_else(|| fail())));
             continue;
         }
         let mut number = || args.next().and_then(|v| v.replace('_', "").parse::<u64>().ok()).unwrap_or_else(|| fail());
