@@ -373,9 +373,21 @@ pub fn limits() -> Vec<(u32, Vec<u8>)> {
         raw(3, "\"", b'a', total, b"\"");
         raw(1, "7 ", b'a', total, b"");
         raw(14, "x", b'(', total, b"");
+        raw(6, "", b'a', total, b" ");
+        raw(8, "", 0x80, total, b"\r");
+        raw(8, "", b'a', total, b"");
+        raw(21, &format!("BODY[] {{{}}}\r\n", total - 19), b'"', total, b"(");
+        raw(14, &format!("(\"\" \"\" NIL NIL {{{}}}\r\n", total - 33), b')', total, b" \"\" 1)");
+        raw(22, &format!("METADATA \"\" (/shared/admin {{{}}}\r\n", total - 40), b'v', total, b")");
+        raw(12, "/shared/admin/", b'a', total, b" ");
+        raw(2, "", b'0', total, b"7 ");
     }
     raw(0, "", b'1', MB16 + 1, b"");
     raw(26, "", b'1', MB16 + 1, b"");
+    // many nodes
+    v.push((9, [&b"1,".repeat(300_000)[..], b"1 "].concat()));
+    v.push((10, [&b"3:1,".repeat(200_000)[..], b"1 "].concat()));
+    v.push((14, [&b"("[..], &b"(\"\" \"\" NIL NIL NIL \"\" 1)".repeat(20_000), b" \"\")"].concat()));
     v
 }
 

@@ -315,3 +315,58 @@ fn the_stored_sample() {
         }
     }
 }
+
+/// Memory whose last byte stands before a page that no program may touch.
+struct Fenced {
+    at: *mut u8,
+    size: usize,
+}
+
+const PAGE: usize = 65536;
+
+impl Fenced {
+    fn new(most: usize) -> Fenced {
+        unsafe extern "C" {
+            fn mmap(at: *mut u8, size: usize, may: i32, flags: i32, file: i32, from: i64) -> *mut u8;
+            fn mprotect(at: *mut u8, size: usize, may: i32) -> i32;
+        }
+        let size = most.next_multiple_of(PAGE);
+        // SAFETY: Linux; fresh private memory (PROT_READ | PROT_WRITE, MAP_PRIVATE | MAP_ANONYMOUS), its last page shut.
+        unsafe {
+            let at = mmap(std::ptr::null_mut(), size + PAGE, 3, 0x22, -1, 0);
+            assert!(at as isize != -1 && mprotect(at.add(size), PAGE, 0) == 0);
+            Fenced { at, size }
+        }
+    }
+
+    /// The last so many elements.
+    fn last<T>(&mut self, count: usize) -> &mut [T] {
+        let bytes = count * size_of::<T>();
+        assert!(bytes <= self.size);
+        // SAFETY: inside the memory, and aligned: the fence stands at a page.
+        unsafe { std::slice::from_raw_parts_mut(self.at.add(self.size - bytes).cast(), count) }
+    }
+}
+
+/// No byte behind the buffer is read, and none behind the table or out is written: a fence stands there.
+#[test]
+fn nothing_beyond_the_slices_is_touched() {
+    let (mut buffer, mut table, mut out) = (Fenced::new(PAGE), Fenced::new(4 * PAGE), Fenced::new(PAGE));
+    let inputs = file("sample.inputs");
+    for (i, line) in inputs.lines().enumerate() {
+        let (rule, words, s) = sample_line(line);
+        for cut in [s.len(), s.len() / 2, s.len().saturating_sub(1)] {
+            let buffer = buffer.last(cut);
+            buffer.copy_from_slice(&s[..cut]);
+            let mut expected = vec![MARK; words];
+            let f = model::read(rule, buffer, &mut expected);
+            let table = table.last(words);
+            table.fill(MARK);
+            let out = out.last(4 + i % 2);
+            let answer = read_into(rule, buffer, table, out);
+            assert_eq!((answer, &out[..4]), (f.answer, &[f.answer, f.taken, f.nodes, f.wanted].map(u64::from)[..]));
+            assert_eq!(table, expected);
+            read_into(rule, buffer, table, &mut out[..i % 4]);
+        }
+    }
+}

@@ -180,7 +180,8 @@ impl Run {
             let enough = words >= need;
             let right = if enough { f.answer == 0 } else { f.answer == 4 && f.nodes as usize * 4 == need };
             if !right {
-                let kind = (false, "a table size around the need".to_string(), format!("{f:?}"), format!("{words} words"));
+                let said = if f.answer == 4 { "4, another count" } else { "another answer" };
+                let kind = (false, "a table size around the need".to_string(), said.to_string(), String::new());
                 self.note(kind, rule, s, words);
             } else if let Some(kind) = kind {
                 // with room it is an input that was counted before
@@ -305,7 +306,7 @@ impl Run {
         let kinds: Vec<Kind> = self.kinds.keys().cloned().collect();
         for kind in kinds {
             let (rule, mut s, words) = self.kinds[&kind].smallest.clone();
-            if s.len() > 5000 || kind.1.starts_with("demand 3") || kind.2 == "4" {
+            if s.len() > 5000 || ["demand 3", "a table size"].iter().any(|k| kind.1.starts_with(k)) || kind.2 == "4" {
                 continue;
             }
             let mut table = Vec::new();
@@ -384,6 +385,14 @@ fn run(seconds: Option<u64>, inputs: Option<u64>, seed: u64, responses: Vec<(u32
     }
     println!("{} inputs around limits", r.inputs);
     let before = r.inputs;
+    // each chosen or real input by all other rules
+    for (rule, s) in make::SEEDS.iter().map(|(rule, s)| (*rule, *s)).chain(responses.iter().map(|(rule, s)| (*rule, &s[..]))) {
+        for other in (1..=25).filter(|other| *other != rule) {
+            r.one(other, s);
+        }
+    }
+    println!("{} inputs that are another rule's", r.inputs - before);
+    let before = r.inputs;
     for (rule, s) in &responses {
         r.one(*rule, s);
         r.table_sizes(*rule, s);
@@ -447,6 +456,13 @@ fn run(seconds: Option<u64>, inputs: Option<u64>, seed: u64, responses: Vec<(u32
             }
             if f.answer == 0 && rng.one_in(30) {
                 r.demand_3(&mut rng, rule, &s);
+            }
+            if f.answer == 0 && s.len() < 120 && rng.one_in(600) {
+                // all that is one byte away
+                let near = Source::Near { rule, seed: s.clone() };
+                for i in 0..near.len() {
+                    r.one(rule, &near.get(i));
+                }
             }
             if rng.one_in(20) {
                 // another rule's input
