@@ -1,11 +1,17 @@
-//! Only for the feature `ours`: where the port's library is.
+//! Only for the feature `port`: where the port's archive is.
+
+use std::path::PathBuf;
 
 fn main() {
     println!("cargo:rerun-if-changed=build.rs");
     println!("cargo:rerun-if-env-changed=ELBOMAVUND_LIB");
-    if std::env::var_os("CARGO_FEATURE_OURS").is_some() {
-        let folder = std::env::var("ELBOMAVUND_LIB").expect("ELBOMAVUND_LIB names the folder of libelbomavund.a");
-        println!("cargo:rustc-link-search=native={folder}");
-        println!("cargo:rerun-if-changed={folder}/libelbomavund.a");
+    if std::env::var_os("CARGO_FEATURE_PORT").is_some() {
+        let here = PathBuf::from(std::env::var("CARGO_MANIFEST_DIR").unwrap());
+        let folder = here.join(std::env::var("ELBOMAVUND_LIB").unwrap_or("../target/staticlib".into()));
+        let archive = folder.join("libreader.a");
+        assert!(archive.is_file(), "{} is missing: oracle/lib builds it", archive.display());
+        println!("cargo:rustc-link-search=native={}", folder.display());
+        println!("cargo:rerun-if-changed={}", archive.display());
+        println!("cargo:rustc-env=ELBOMAVUND_ARCHIVE={}", archive.display());
     }
 }

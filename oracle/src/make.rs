@@ -373,9 +373,21 @@ pub fn limits() -> Vec<(u32, Vec<u8>)> {
         raw(3, "\"", b'a', total, b"\"");
         raw(1, "7 ", b'a', total, b"");
         raw(14, "x", b'(', total, b"");
+        raw(6, "", b'a', total, b" ");
+        raw(8, "", 0x80, total, b"\r");
+        raw(8, "", b'a', total, b"");
+        raw(21, &format!("BODY[] {{{}}}\r\n", total - 19), b'"', total, b"(");
+        raw(14, &format!("(\"\" \"\" NIL NIL {{{}}}\r\n", total - 33), b')', total, b" \"\" 1)");
+        raw(22, &format!("METADATA \"\" (/shared/admin {{{}}}\r\n", total - 40), b'v', total, b")");
+        raw(12, "/shared/admin/", b'a', total, b" ");
+        raw(2, "", b'0', total, b"7 ");
     }
     raw(0, "", b'1', MB16 + 1, b"");
     raw(26, "", b'1', MB16 + 1, b"");
+    // many nodes
+    v.push((9, [&b"1,".repeat(300_000)[..], b"1 "].concat()));
+    v.push((10, [&b"3:1,".repeat(200_000)[..], b"1 "].concat()));
+    v.push((14, [&b"("[..], &b"(\"\" \"\" NIL NIL NIL \"\" 1)".repeat(20_000), b" \"\")"].concat()));
     v
 }
 
@@ -1052,4 +1064,17 @@ pub fn damaged(rng: &mut Rng, s: &[u8]) -> Vec<u8> {
         }
     }
     out
+}
+
+/// Lines of RULE HEX; what follows, and lines that begin otherwise, are not looked at.
+pub fn responses(file: &str) -> Vec<(u32, Vec<u8>)> {
+    let text = std::fs::read_to_string(file).unwrap_or_else(|e| panic!("{file}: {e}"));
+    let line = |l: &str| {
+        let mut words = l.split_whitespace();
+        let rule = words.next()?.parse().ok()?;
+        let hex = words.next()?;
+        let bytes = (0..hex.len() / 2).map(|i| u8::from_str_radix(&hex[2 * i..2 * i + 2], 16).ok()).collect::<Option<_>>()?;
+        Some((rule, bytes))
+    };
+    text.lines().filter_map(line).collect()
 }

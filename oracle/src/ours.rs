@@ -1,38 +1,62 @@
-//! The port's side. This is the one place that says what is linked.
+//! The port's side. This is the one place that declares what is linked: the C functions of include/elbomavund.h, in the archive
+//! libreader.a (oracle/lib builds it). tests/declarations.rs holds these declarations to the header, and every word of what the
+//! functions return and write.
 //!
-//! With the feature `ours` it is a C function of the library `elbomavund`, in the folder that ELBOMAVUND_LIB names:
-//!
-//! ```c
-//! // Reads by a rule. The four numbers go to out4: answer, taken, nodes, wanted. The answer is returned as well.
-//! // The buffer is len bytes at buf, the table is words 32-bit words at table. Nothing else is read or written.
-//! uint32_t elbomavund_read(uint32_t rule, const uint8_t *buf, size_t len, uint32_t *table, size_t words, uint32_t *out4);
-//! ```
-//!
-//! Without the feature the model (model.rs) stands in for it.
+//! Without the feature `port` nothing is linked, and the model (model.rs) stands in for `read`.
 
 use crate::model::Four;
 
-#[cfg(feature = "ours")]
+#[cfg(feature = "port")]
 pub const NAME: &str = "the port (elbomavund_read)";
-#[cfg(not(feature = "ours"))]
-pub const NAME: &str = "the model of document 01 (the port is not linked: feature `ours`)";
+#[cfg(not(feature = "port"))]
+pub const NAME: &str = "the model of document 01; the port is NOT in this comparison";
 
-#[cfg(feature = "ours")]
-#[link(name = "elbomavund", kind = "static")]
+#[cfg(feature = "port")]
+#[link(name = "reader", kind = "static")]
 unsafe extern "C" {
-    fn elbomavund_read(rule: u32, buf: *const u8, len: usize, table: *mut u32, words: usize, out4: *mut u32) -> u32;
+    pub fn elbomavund_read(
+        rule: u32,
+        buffer: *const u8,
+        length: usize,
+        table: *mut u32,
+        table_length: usize,
+        out: *mut u64,
+        out_length: usize,
+    ) -> u32;
+    pub fn elbomavund_view(
+        length: usize,
+        table: *const u32,
+        table_length: usize,
+        node: usize,
+        out: *mut u64,
+        out_length: usize,
+    ) -> u32;
 }
 
-#[cfg(feature = "ours")]
+/// A reading; what is returned, with out as it is after it.
+#[cfg(feature = "port")]
+pub fn read_into(rule: u32, s: &[u8], table: &mut [u32], out: &mut [u64]) -> u32 {
+    // SAFETY: the lengths are those of the slices, and no two of them overlap.
+    unsafe { elbomavund_read(rule, s.as_ptr(), s.len(), table.as_mut_ptr(), table.len(), out.as_mut_ptr(), out.len()) }
+}
+
+/// A view of a node; what is returned, with out as it is after it.
+#[cfg(feature = "port")]
+pub fn view_into(length: usize, table: &[u32], node: usize, out: &mut [u64]) -> u32 {
+    // SAFETY: as above.
+    unsafe { elbomavund_view(length, table.as_ptr(), table.len(), node, out.as_mut_ptr(), out.len()) }
+}
+
+#[cfg(feature = "port")]
 pub fn read(rule: u32, s: &[u8], table: &mut [u32]) -> Four {
-    let mut out = [u32::MAX; 4];
-    // SAFETY: buffer, table and the four words are as long as is said.
-    let answer = unsafe { elbomavund_read(rule, s.as_ptr(), s.len(), table.as_mut_ptr(), table.len(), out.as_mut_ptr()) };
-    assert_eq!(answer, out[0], "elbomavund_read returns another answer than it puts into out4");
-    Four { answer: out[0], taken: out[1], nodes: out[2], wanted: out[3] }
+    let mut out = [u64::MAX; 4];
+    let answer = read_into(rule, s, table, &mut out);
+    assert_eq!(answer as u64, out[0], "elbomavund_read returns another answer than it writes");
+    let [answer, taken, nodes, wanted] = out.map(|word| u32::try_from(word).expect("a number of 32 bits"));
+    Four { answer, taken, nodes, wanted }
 }
 
-#[cfg(not(feature = "ours"))]
+#[cfg(not(feature = "port"))]
 pub fn read(rule: u32, s: &[u8], table: &mut [u32]) -> Four {
     crate::model::read(rule, s, table)
 }

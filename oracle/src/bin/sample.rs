@@ -9,9 +9,10 @@ use elbomavund_oracle::tree::{from_nodes, Answer, Node, Tree};
 use elbomavund_oracle::{known, oracle, show};
 
 const HELP: &str = "\
-sample [--seed N] [--scale N] [--out NAME]
+sample [--seed N] [--scale N] [--responses FILE] [--out NAME]
   Writes NAME.inputs (RULE WORDS HEX, HEX - if the buffer is empty), NAME.expected (ANSWER TAKEN NODES WANTED WORD ...) and
-  NAME.origin (who says so), line by line. --scale N takes N times as many. Defaults: 1, 1, sample.";
+  NAME.origin (who says so), line by line. --scale N takes N times as many. FILE has lines of
+  RULE HEX; they are taken too, whole. Defaults: 1, 1, none, sample.";
 
 /// Words that the Rust says and words that only the model says.
 #[derive(Default)]
@@ -124,13 +125,14 @@ fn case(rule: u32, bytes: Vec<u8>, words_given: impl FnOnce(usize) -> usize) -> 
 }
 
 fn main() {
-    let (mut seed, mut scale, mut out) = (1, 1, "sample".to_string());
+    let (mut seed, mut scale, mut responses, mut out) = (1, 1, vec![], "sample".to_string());
     let mut args = std::env::args().skip(1);
     while let Some(a) = args.next() {
         let value = if a == "--help" { None } else { args.next() };
         match (a.as_str(), value) {
             ("--seed", Some(v)) => seed = v.parse().expect("a number"),
             ("--scale", Some(v)) => scale = v.parse().expect("a number"),
+            ("--responses", Some(v)) => responses = make::responses(&v),
             ("--out", Some(v)) => out = v,
             _ => {
                 println!("{HELP}");
@@ -138,11 +140,11 @@ fn main() {
             }
         }
     }
-    let thread = std::thread::Builder::new().stack_size(1 << 28).spawn(move || run(seed, scale, &out)).unwrap();
+    let thread = std::thread::Builder::new().stack_size(1 << 28).spawn(move || run(seed, scale, responses, &out)).unwrap();
     thread.join().unwrap();
 }
 
-fn run(seed: u64, scale: usize, out: &str) {
+fn run(seed: u64, scale: usize, responses: Vec<(u32, Vec<u8>)>, out: &str) {
     let mut rng = Rng(seed);
     let mut cases: Vec<Case> = Vec::new();
     let mut there: HashSet<(u32, usize, Vec<u8>)> = HashSet::new();
@@ -203,14 +205,20 @@ fn run(seed: u64, scale: usize, out: &str) {
             cases.push(case(rule, s.as_bytes().to_vec(), |_| 8));
         }
     }
+    let made = cases.len();
+    for (rule, s) in responses {
+        let extra = rng.below(9);
+        cases.push(case(rule, s, |n| 4 * n + extra));
+    }
     let (mut inputs, mut expected, mut origin) = (String::new(), String::new(), String::new());
     let mut counts: BTreeMap<(u32, u32), u64> = BTreeMap::new();
     let mut by_rust = 0;
-    for c in &cases {
+    for (i, c) in cases.iter().enumerate() {
         let hex = if c.bytes.is_empty() { "-".into() } else { show::hex(&c.bytes) };
         writeln!(inputs, "{} {} {hex}", c.rule, c.words).unwrap();
         writeln!(expected, "{}", c.expected).unwrap();
-        writeln!(origin, "{}", c.origin).unwrap();
+        let real = if i < made { "" } else { "; a server's response" };
+        writeln!(origin, "{}{real}", c.origin).unwrap();
         *counts.entry((c.rule.min(26), c.shape.1)).or_default() += 1;
         by_rust += c.origin.starts_with("Rust") as u64;
     }
