@@ -15,6 +15,8 @@ use reader::Answer;
 use walker::Node;
 use walker::Place;
 ghost use Prim.Native.Nat.{_<_, _≤_};
+ghost use lib.ListN.{length};
+ghost use Rattle.command_line.specs.Words.{Loads};
 
 // ----- fields of a node -----
 
@@ -296,7 +298,9 @@ fn list(s: &[u8], t: &mut [u32]) {
     }
 }
 
-fn list_loaded(path: &[u8], loaded: Loaded, buf: &[u8], t: &mut [u32]) {
+fn list_loaded(path: &[u8], loaded: Loaded, buf: &[u8], t: &mut [u32])
+    requires { ⌜ Loads loaded (length (now buf)) ⌝ }
+{
     if let Loaded::Bytes(n) = loaded {
         command_line::say_bytes(path);
         say(b": ");

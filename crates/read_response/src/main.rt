@@ -11,6 +11,9 @@ use command_line::say_name;
 use command_line::say_number;
 use reader::Answer;
 use walker::Node;
+ghost use Prim.Native.Nat.{_≤_};
+ghost use lib.ListN.{length};
+ghost use Rattle.command_line.specs.Words.{Loads};
 
 // ----- what it says of itself -----
 
@@ -75,7 +78,9 @@ fn explain() {
 // ----- the fields of a structure -----
 
 // Where the fields of a kind begin in the table of fields' names; 0, which has no name, for a kind without fields.
-fn first_field(kind: usize) -> usize {
+fn first_field(kind: usize) -> usize
+    ensures { λ r. ⌜ r ≤ 74 ⌝ }
+{
     match kind {
         10 => 1,
         11 => 11,
@@ -89,7 +94,9 @@ fn first_field(kind: usize) -> usize {
     }
 }
 
-fn later_first_field(kind: usize) -> usize {
+fn later_first_field(kind: usize) -> usize
+    ensures { λ r. ⌜ r ≤ 74 ⌝ }
+{
     match kind {
         18 => 63,
         19 => 65,
@@ -287,11 +294,11 @@ fn show(number: u32, s: &[u8], t: &mut [u32]) {
     }
 }
 
-fn show_loaded(number: u32, loaded: Loaded, buf: &[u8], t: &mut [u32]) {
+fn show_loaded(number: u32, loaded: Loaded, buf: &[u8], t: &mut [u32])
+    requires { ⌜ Loads loaded (length (now buf)) ⌝ }
+{
     if let Loaded::Bytes(n) = loaded {
-        if n <= buf.len() {
-            show(number, &buf[..n], t);
-        }
+        show(number, &buf[..n], t);
     }
 }
 
