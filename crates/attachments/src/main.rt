@@ -37,6 +37,15 @@ fn parameters_field(kind: u32) -> usize {
     }
 }
 
+// The size, behind parameters, id, description and encoding.
+fn octets_field(kind: u32) -> usize {
+    match kind {
+        grammar::KIND_TEXT => 5,
+        grammar::KIND_MESSAGE => 4,
+        _ => 6,
+    }
+}
+
 // The disposition: text has a count of lines before it, message an envelope, a body and a count of lines.
 fn disposition_field(kind: u32) -> usize {
     match kind {
@@ -142,11 +151,10 @@ fn say_octets(t: &[u32], at: usize) {
 
 // A part's line behind its number.
 fn say_part(s: &[u8], t: &[u32], at: usize, kind: u32) {
-    let parameters = parameters_field(kind);
     say(b" ");
     say_type(s, t, at, kind);
-    say_octets(t, child(t, at, parameters + 4));
-    say_named(s, t, child(t, at, parameters), b"NAME");
+    say_octets(t, child(t, at, octets_field(kind)));
+    say_named(s, t, child(t, at, parameters_field(kind)), b"NAME");
     say_disposition(s, t, child(t, at, disposition_field(kind)));
     say(b"\n");
 }
@@ -191,12 +199,16 @@ fn say_count_at(counts: &[u64; DEEPEST], level: usize) {
     }
 }
 
+fn say_dot() {
+    say(b".");
+}
+
 // The counts of the levels below this depth, with dots between them.
 fn say_part_number(counts: &[u64; DEEPEST], depth: usize) {
     say_count_at(counts, 0);
     let mut level: usize = 1;
     while level < depth {
-        say(b".");
+        say_dot();
         say_count_at(counts, level);
         level += 1;
     }
@@ -211,7 +223,13 @@ fn met(counts: &mut [u64; DEEPEST], fresh: &mut [bool; DEEPEST], depth: usize) {
 }
 
 // A body that holds others.
-fn hold(t: &[u32], at: usize, depth: usize, ends: &mut [usize; DEEPEST], counts: &mut [u64; DEEPEST]) -> usize {
+fn hold(
+    t: &[u32],
+    at: usize,
+    depth: usize,
+    ends: &mut [usize; DEEPEST],
+    counts: &mut [u64; DEEPEST],
+) -> usize {
     start_count(counts, depth);
     command_line::opened(ends, depth, command_line::subtree_end(t, at))
 }
@@ -330,7 +348,9 @@ fn list_files(buf: &mut [u8], t: &mut [u32]) {
 
 fn answer(buf: &mut [u8], t: &mut [u32]) {
     if os::arg_count() < 2 {
-        say(b"usage: attachments FILE...\nlists the parts of each FILE's BODYSTRUCTURE item, with their names\n");
+        say(
+            b"usage: attachments FILE...\nlists the parts of each FILE's BODYSTRUCTURE item, with their names\n",
+        );
         return;
     }
     list_files(buf, t);

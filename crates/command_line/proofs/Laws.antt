@@ -70,7 +70,8 @@ module _ {a b : List ℕ} {i : ℕ} (g : Agree a b i) where
       same =
           sym (ap (λ (t : Bool). t && same-word (drop (i + 1) a) (drop (i + 1) b)) (eq-eqb (capital (getD a i 0)) (capital (getD b i 0)) e))
           ∙ sym (step-same a b i l in-both)
-          ∙ g .same }
+          ∙ g .same;
+    }
 
     pub agree-halts : (capital (getD a i 0) ≡ capital (getD b i 0) → ⊥) → false ≡ same-word a b
     agree-halts h =
@@ -249,7 +250,8 @@ module _ {s : List ℕ} {i value : ℕ} (g : Valued s i value) where
         some = g .some;
         same =
             sym (step-decimal s i value l ∙ rw (a-digit (getD s i 0) low high, le-leb (value * 10 + (getD s i 0 - 48)) 4294967295 m))
-            ∙ g .same }
+            ∙ g .same;
+      }
 
 -- a rule's number is small
 module _ (names name : List ℕ) where

@@ -455,7 +455,10 @@ fn too_long(command: &[u8], path: &[u8]) {
     io::write_all(2, command);
     io::write_all(2, b": too long: ");
     io::write_all(2, path);
-    io::write_all(2, b" has more than 1048576 bytes, which is this command's limit\n");
+    io::write_all(
+        2,
+        b" has more than 1048576 bytes, which is this command's limit\n",
+    );
 }
 
 // Reads to the end. A buffer that is full has one byte more than is allowed.

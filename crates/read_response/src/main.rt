@@ -223,7 +223,8 @@ fn say_node(s: &[u8], t: &[u32], at: usize) {
         a,
         b,
         nodes: _,
-    } = walker::look(t, at) else {
+    } = walker::look(t, at)
+    else {
         return;
     };
     command_line::say_kind(kind as usize);
@@ -269,7 +270,12 @@ fn say_tree(s: &[u8], t: &[u32], nodes: usize) {
         say_indent(depth);
         say_field_at(&kinds, &mut seen, depth);
         say_node(s, t, at);
-        parent(&mut kinds, &mut seen, depth, walker::kind_at(t, at) as usize);
+        parent(
+            &mut kinds,
+            &mut seen,
+            depth,
+            walker::kind_at(t, at) as usize,
+        );
         depth = command_line::opened(&mut ends, depth, command_line::subtree_end(t, at));
         at += 1;
     }

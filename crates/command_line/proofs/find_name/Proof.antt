@@ -1,4 +1,3 @@
-
 use Prim.Native.Nat.{_+_, _-_, _*_, _/_, _≤_, _<_}
 use lib.ListN.{length}
 use mathlib.Core.Path.{_≡_, refl, sym, _∙_}
