@@ -20,50 +20,47 @@ ghost use Rattle.command_line.specs.Words.{Loads};
 fn say_usage() {
     say(
         b"read: shows what a piece of an IMAP server's response holds.\n\
-          \n\
           usage: read RULE [FILE]\n\
-          \n\
-          reads FILE, or standard input, from its first byte on by RULE, a number or a name,\n\
-          and prints the answer (0 to 6) and, where it is 0, the nodes as a tree. A node's line\n\
-          has its field, its kind, and its bytes' places [start..end) in FILE or its value.\n\
+          FILE, or standard input, is read from its first byte on by RULE, a number or a name.\n\
           At most 1048576 bytes are read, into a table of 196608 nodes: this command's limits.\n\
           The reader's own limit is 16777216 bytes.\n\
-          \n\
+          The answer is printed and, where it is 0, each node: its field, kind, and places\n\
+          [start..end) in FILE or value.\n\
           rules:\n",
     );
 }
 
-// Behind each name what it reads.
+// Behind a name what it reads, where the name does not say it.
 fn say_rules() {
     say(
         b"   1 NUMBER           of 32 bits\n\
           \x20  2 NUMBER64         of 64 bits\n\
-          \x20  3 QUOTED           \"a quoted string\"\n\
-          \x20  4 LITERAL          {3}, a line end, and three bytes\n\
+          \x20  3 QUOTED\n\
+          \x20  4 LITERAL\n\
           \x20  5 STRING           quoted or literal\n\
-          \x20  6 ASTRING          a string or an atom\n\
-          \x20  7 NSTRING          a string or NIL\n\
+          \x20  6 ASTRING          atom or string\n\
+          \x20  7 NSTRING          string or NIL\n\
           \x20  8 TEXT             up to a line end\n\
-          \x20  9 SEQUENCE-SET     1:4,7\n\
-          \x20 10 UID-SET          1:4,7\n\
+          \x20  9 SEQUENCE-SET\n\
+          \x20 10 UID-SET\n\
           \x20 11 SECTION          [1.MIME]\n\
-          \x20 12 ENTRY-NAME       /private/comment\n\
-          \x20 13 ENVELOPE-FIELDS  (..), without the word ENVELOPE\n",
+          \x20 12 ENTRY-NAME\n\
+          \x20 13 ENVELOPE-FIELDS  (..) alone\n",
     );
 }
 
 fn say_more_rules() {
     say(
-        b"  14 BODY             (..), without the word BODYSTRUCTURE\n\
-          \x20 15 APPENDUID        APPENDUID 1 2:3\n\
-          \x20 16 COPYUID          COPYUID 1 2:3 4:5\n\
-          \x20 17 UIDNOTSTICKY     UIDNOTSTICKY\n\
-          \x20 18 VANISHED         VANISHED (EARLIER) 1:4,7\n\
-          \x20 19 HIGHESTMODSEQ    HIGHESTMODSEQ 9\n\
-          \x20 20 MODSEQ           MODSEQ (9)\n\
-          \x20 21 BODY-SECTION     BODY[1.MIME] \"..\"\n\
-          \x20 22 METADATA-VALUES  METADATA \"\" (/shared/comment \"..\")\n\
-          \x20 23 METADATA-NAMES   METADATA \"\" /shared/comment\n\
+        b"  14 BODY             (..) alone\n\
+          \x20 15 APPENDUID\n\
+          \x20 16 COPYUID\n\
+          \x20 17 UIDNOTSTICKY\n\
+          \x20 18 VANISHED\n\
+          \x20 19 HIGHESTMODSEQ\n\
+          \x20 20 MODSEQ\n\
+          \x20 21 BODY-SECTION     BODY[1] ..\n\
+          \x20 22 METADATA-VALUES\n\
+          \x20 23 METADATA-NAMES\n\
           \x20 24 ENVELOPE         ENVELOPE (..)\n\
           \x20 25 BODYSTRUCTURE    BODYSTRUCTURE (..)\n",
     );
