@@ -105,6 +105,10 @@ pub fn is_astring_char(c: u8) -> bool
 pub fn is_text_char(c: u8) -> bool
     ensures { λ r. ⌜ r ≡ text-char c ⌝ }
 {
+    // Nearly every byte: one test, where a match of the three would become a jump by a table.
+    if b'\r' < c {
+        return true;
+    }
     if c == 0 {
         return false;
     }

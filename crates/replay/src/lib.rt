@@ -1,12 +1,15 @@
-//! Lines of readings: `RULE WORDS HEX` in, `ANSWER TAKEN NODES WANTED WORD ..` out (docs/TESTS.md). The programs `cases`,
-//! `samples` and `.._samples` are this function, each over a standard input of its own.
+//! Lines of readings: `RULE WORDS HEX` in, `ANSWER TAKEN NODES WANTED WORD ..` out (docs/TESTS.md). The programs `cases` and
+//! `samples` are this function, each over a standard input of its own.
 
 use reader::Answer;
 ghost use Prim.Native.Nat.{_≤_};
 ghost use lib.ListN.{length};
 
-// No line's number, and no place in a buffer of ours.
+// No number of 32 bits.
 const NONE: u64 = 4_294_967_296;
+
+// The most bytes that a line asks to read.
+const MOST: usize = 65_536;
 
 // No line is as long.
 const ENDED: usize = 1_048_576;
@@ -14,8 +17,8 @@ const ENDED: usize = 1_048_576;
 // What a table's words are before a reading.
 const MARK: u32 = 2_863_311_530;
 
-// What a line asks for; the bytes stand in a buffer of ours.
-enum Line {
+// What a line asks for; the bytes then stand at its beginning.
+enum Asked {
     Reading { rule: u32, words: usize, len: usize },
     Bad,
 }
@@ -99,22 +102,23 @@ fn byte_of(high: u8, low: u8) -> u32 {
     16 * high as u32 + low as u32
 }
 
-// The bytes that the digits from a place on stand for, and how many; more than there is room for where they are no such text.
-fn bytes_from(text: &[u8], from: usize, bytes: &mut [u8]) -> usize {
+// The digits from a place on become the bytes that they stand for, at the line's beginning: how many those are, or MOST + 1 where
+// the digits are no such text or too many.
+fn bytes_from(line: &mut [u8], from: usize) -> usize {
     let mut n: usize = 0;
     let mut i = from;
-    while i < text.len() {
-        if text.len() - i < 2 {
-            return bytes.len() + 1;
+    while i < line.len() {
+        if line.len() - i < 2 {
+            return MOST + 1;
         }
-        let b = byte_of(text[i], text[i + 1]);
+        if MOST <= n {
+            return MOST + 1;
+        }
+        let b = byte_of(line[i], line[i + 1]);
         if 255 < b {
-            return bytes.len() + 1;
+            return MOST + 1;
         }
-        if bytes.len() <= n {
-            return bytes.len() + 1;
-        }
-        bytes[n] = b as u8;
+        line[n] = b as u8;
         n += 1;
         i += 2;
     }
@@ -122,96 +126,53 @@ fn bytes_from(text: &[u8], from: usize, bytes: &mut [u8]) -> usize {
 }
 
 // The same with `-` for no bytes; nothing at all is no such text.
-fn content(text: &[u8], from: usize, bytes: &mut [u8]) -> usize {
-    if text.len() <= from {
-        return bytes.len() + 1;
+fn content(line: &mut [u8], from: usize) -> usize {
+    if line.len() <= from {
+        return MOST + 1;
     }
-    if text[from] == b'-' && text.len() - from == 1 {
+    if line[from] == b'-' && line.len() - from == 1 {
         return 0;
     }
-    bytes_from(text, from, bytes)
+    bytes_from(line, from)
 }
 
-fn line_of(text: &[u8], bytes: &mut [u8]) -> Line {
-    let first = blank_at(text, 0);
-    let second = blank_at(text, first + 1);
-    let rule = number_between(text, 0, first);
-    let words = number_between(text, first + 1, second);
-    let len = content(text, second + 1, bytes);
+fn asked_of(line: &mut [u8]) -> Asked {
+    let first = blank_at(line, 0);
+    let second = blank_at(line, first + 1);
+    let rule = number_between(line, 0, first);
+    let words = number_between(line, first + 1, second);
+    let len = content(line, second + 1);
     if NONE <= rule || NONE <= words {
-        return Line::Bad;
+        return Asked::Bad;
     }
-    Line::Reading {
+    Asked::Reading {
         rule: rule as u32,
         words: words as usize,
         len,
     }
 }
 
-// ----- output: gathered, and written at each line's end or when there is no more room -----
+// ----- output -----
 
-fn copy(out: &mut [u8], at: usize, text: &[u8]) {
-    if out.len() < at {
-        return;
-    }
-    let mut i: usize = 0;
-    while i < text.len() {
-        if out.len() - at <= i {
-            return;
-        }
-        out[at + i] = text[i];
-        i += 1;
-    }
+fn say(text: &[u8]) {
+    io::write_all(1, text);
 }
 
-// Text behind the n bytes that wait; how many wait then.
-fn put(out: &mut [u8], n: usize, text: &[u8]) -> usize {
-    if out.len() < n || out.len() - n < text.len() {
-        flush(out, n);
-        return put_first(out, text);
-    }
-    copy(out, n, text);
-    n + text.len()
-}
-
-fn put_first(out: &mut [u8], text: &[u8]) -> usize {
-    if out.len() < text.len() {
-        io::write_all(1, text);
-        return 0;
-    }
-    copy(out, 0, text);
-    text.len()
-}
-
-fn flush(out: &[u8], n: usize) {
-    if n <= out.len() {
-        io::write_all(1, &out[0..n]);
-    }
-}
-
-fn put_number(out: &mut [u8], n: usize, value: u64) -> usize {
-    let mut text = [0u8; 20];
-    let k = io::decimal(value, &mut text);
-    put(out, n, &text[..k])
-}
-
-fn put_word(out: &mut [u8], n: usize, word: u64) -> usize {
-    let n = put(out, n, b" ");
-    put_number(out, n, word)
+fn say_word(word: u64) {
+    say(b" ");
+    io::print_decimal(1, word);
 }
 
 fn wide(word: u32) -> u64 {
     word as u64
 }
 
-fn put_words(out: &mut [u8], n: usize, t: &[u32]) -> usize {
-    let mut waiting = n;
+fn say_words(t: &[u32]) {
     let mut i: usize = 0;
     while i < t.len() {
-        waiting = put_word(out, waiting, wide(t[i]));
+        say_word(wide(t[i]));
         i += 1;
     }
-    waiting
 }
 
 // ----- a reading -----
@@ -235,22 +196,22 @@ fn is_touched(t: &[u32]) -> bool {
     false
 }
 
-fn put_numbers(out: &mut [u8], answer: u64, taken: usize, nodes: usize, wanted: usize) -> usize {
-    let n = put_number(out, 0, answer);
-    let n = put_word(out, n, taken as u64);
-    let n = put_word(out, n, nodes as u64);
-    put_word(out, n, wanted as u64)
+fn say_numbers(answer: u64, taken: usize, nodes: usize, wanted: usize) {
+    io::print_decimal(1, answer);
+    say_word(taken as u64);
+    say_word(nodes as u64);
+    say_word(wanted as u64);
 }
 
-fn put_answer(out: &mut [u8], answer: Answer) -> usize {
+fn say_answer(answer: Answer) {
     match answer {
-        Answer::Accepted { taken, nodes } => put_numbers(out, 0, taken, nodes, 0),
-        Answer::Unfinished { wanted } => put_numbers(out, 1, 0, 0, wanted),
-        Answer::NotTheGrammar => put_numbers(out, 2, 0, 0, 0),
-        Answer::TooDeep => put_numbers(out, 3, 0, 0, 0),
-        Answer::NoRoom { nodes } => put_numbers(out, 4, 0, nodes, 0),
-        Answer::UnknownRule => put_numbers(out, 5, 0, 0, 0),
-        Answer::TooLong => put_numbers(out, 6, 0, 0, 0),
+        Answer::Accepted { taken, nodes } => say_numbers(0, taken, nodes, 0),
+        Answer::Unfinished { wanted } => say_numbers(1, 0, 0, wanted),
+        Answer::NotTheGrammar => say_numbers(2, 0, 0, 0),
+        Answer::TooDeep => say_numbers(3, 0, 0, 0),
+        Answer::NoRoom { nodes } => say_numbers(4, 0, nodes, 0),
+        Answer::UnknownRule => say_numbers(5, 0, 0, 0),
+        Answer::TooLong => say_numbers(6, 0, 0, 0),
     }
 }
 
@@ -262,46 +223,43 @@ fn accepted_nodes(answer: Answer) -> usize {
 }
 
 // The nodes' words, whether another word changed, and the line's end.
-fn put_table(out: &mut [u8], n: usize, t: &[u32], nodes: usize) {
+fn say_table(t: &[u32], nodes: usize) {
     let k = table::skip(t.len(), nodes);
-    let n = put_words(out, n, &t[0..k]);
+    say_words(&t[0..k]);
     if is_touched(&t[k..]) {
-        let n = put(out, n, b" touched\n");
-        flush(out, n);
-        return;
+        say(b" touched");
     }
-    let n = put(out, n, b"\n");
-    flush(out, n);
+    say(b"\n");
 }
 
-fn answer_reading(rule: u32, s: &[u8], t: &mut [u32], out: &mut [u8]) {
+fn answer_reading(rule: u32, s: &[u8], t: &mut [u32]) {
     fill(t);
     let answer = reader::read(rule, s, t);
-    let n = put_answer(out, answer);
+    say_answer(answer);
     let nodes = accepted_nodes(answer);
-    put_table(out, n, t, nodes);
+    say_table(t, nodes);
 }
 
 // ----- lines -----
 
-fn answer_text(text: &[u8], bytes: &mut [u8], t: &mut [u32], out: &mut [u8]) {
-    let line = line_of(text, bytes);
-    if let Line::Reading { rule, words, len } = line {
-        if len <= bytes.len() && words <= t.len() {
-            answer_reading(rule, &bytes[0..len], &mut t[0..words], out);
+fn answer_text(line: &mut [u8], t: &mut [u32]) {
+    let asked = asked_of(line);
+    if let Asked::Reading { rule, words, len } = asked {
+        if len <= line.len() && len <= MOST && words <= t.len() {
+            answer_reading(rule, &line[0..len], &mut t[0..words]);
             return;
         }
     }
-    io::write_all(1, b"bad line\n");
+    say(b"bad line\n");
 }
 
 // A line of n bytes; one that is longer than our buffer is bad.
-fn answer_line(line: &[u8], n: usize, bytes: &mut [u8], t: &mut [u32], out: &mut [u8]) {
+fn answer_line(line: &mut [u8], n: usize, t: &mut [u32]) {
     if line.len() < n {
-        io::write_all(1, b"bad line\n");
+        say(b"bad line\n");
         return;
     }
-    answer_text(&line[0..n], bytes, t, out);
+    answer_text(&mut line[0..n], t);
 }
 
 // A byte behind the n of the line that are there, as far as there is room; how many there are then, one more at most than room.
@@ -313,33 +271,19 @@ fn add_byte(line: &mut [u8], n: usize, b: u8) -> usize {
     line.len() + 1
 }
 
-fn take_byte(
-    b: u8,
-    line: &mut [u8],
-    n: usize,
-    bytes: &mut [u8],
-    t: &mut [u32],
-    out: &mut [u8],
-) -> usize {
+fn take_byte(b: u8, line: &mut [u8], n: usize, t: &mut [u32]) -> usize {
     if b == b'\n' {
-        answer_line(line, n, bytes, t, out);
+        answer_line(line, n, t);
         return 0;
     }
     add_byte(line, n, b)
 }
 
-fn take_bytes(
-    input: &[u8],
-    line: &mut [u8],
-    n: usize,
-    bytes: &mut [u8],
-    t: &mut [u32],
-    out: &mut [u8],
-) -> usize {
+fn take_bytes(input: &[u8], line: &mut [u8], n: usize, t: &mut [u32]) -> usize {
     let mut held = n;
     let mut i: usize = 0;
     while i < input.len() {
-        held = take_byte(input[i], line, held, bytes, t, out);
+        held = take_byte(input[i], line, held, t);
         i += 1;
     }
     held
@@ -351,44 +295,32 @@ fn input_of(input: &mut [u8]) -> usize {
     io::count(got, input)
 }
 
-// What is there of standard input; at its end the line that no line end follows, and ENDED.
-fn take_input(
-    input: &mut [u8],
-    line: &mut [u8],
-    held: usize,
-    bytes: &mut [u8],
-    t: &mut [u32],
-    out: &mut [u8],
-) -> usize {
+// The line that no line end follows.
+fn answer_last(line: &mut [u8], held: usize, t: &mut [u32]) {
+    if 0 < held {
+        answer_line(line, held, t);
+    }
+}
+
+// What is there of standard input; at its end the last line, and ENDED.
+fn take_input(input: &mut [u8], line: &mut [u8], held: usize, t: &mut [u32]) -> usize {
     let k = input_of(input);
     if k == 0 {
-        answer_last(line, held, bytes, t, out);
+        answer_last(line, held, t);
         return ENDED;
     }
     if input.len() < k {
         return ENDED;
     }
-    take_bytes(&input[0..k], line, held, bytes, t, out)
-}
-
-fn answer_last(line: &[u8], held: usize, bytes: &mut [u8], t: &mut [u32], out: &mut [u8]) {
-    if 0 < held {
-        answer_line(line, held, bytes, t, out);
-    }
+    take_bytes(&input[0..k], line, held, t)
 }
 
 // Nothing says that the input ends, and a loop has to: its turns are counted down from a number that no run uses up.
-fn answer_input(
-    input: &mut [u8],
-    line: &mut [u8],
-    bytes: &mut [u8],
-    t: &mut [u32],
-    out: &mut [u8],
-) {
+fn answer_input(input: &mut [u8], line: &mut [u8], t: &mut [u32]) {
     let mut held: usize = 0;
     let mut turns = u64::MAX;
     while 0 < turns {
-        held = take_input(input, line, held, bytes, t, out);
+        held = take_input(input, line, held, t);
         if held == ENDED {
             return;
         }
@@ -400,8 +332,6 @@ fn answer_input(
 pub fn answer_lines() {
     let mut input = [0u8; 65536];
     let mut line = [0u8; 131104];
-    let mut bytes = [0u8; 65536];
     let mut t = [0u32; 262144];
-    let mut out = [0u8; 65536];
-    answer_input(&mut input, &mut line, &mut bytes, &mut t, &mut out);
+    answer_input(&mut input, &mut line, &mut t);
 }

@@ -1,15 +1,15 @@
 use borrow.Author.Needs.{needs}
 use mathlib.Core.Path.{_≡_}
-use Prim.Native.Nat.{_-_}
+use Prim.Native.Nat.{_≤_, _-_}
 use lib.ListN.{length}
 use Rattle.replay.proofs.bytes_from.Statement.{statement}
 use Rattle.replay.proofs.bytes_from.Tie as tie
 
 abbrev Inv-loop : tie.InvT-loop
-Inv-loop text from bytes₀ n₀ i₀ bytes n i = length bytes ≡ length bytes₀
+Inv-loop line₀ from n₀ i₀ line n i = (length line ≡ length line₀) × (n ≤ i)
 
 abbrev μ-loop : tie.MeasureT-loop
-μ-loop text from bytes₀ n₀ i₀ bytes n i = length text - i
+μ-loop line₀ from n₀ i₀ line n i = length line₀ - i
 
 loop-holds : tie.Need-loop-holds Inv-loop μ-loop
 loop-holds c = search needs
@@ -26,18 +26,6 @@ same-length c = search needs
 returns : tie.Need-returns Inv-loop μ-loop
 returns c = search needs
 
-shared-slice-read-byte-of : tie.Need-shared-slice-read-byte-of Inv-loop μ-loop
-shared-slice-read-byte-of c = search needs
-
-add-byte-of : tie.Need-add-byte-of Inv-loop μ-loop
-add-byte-of c = search needs
-
-shared-slice-read-byte-of-2 : tie.Need-shared-slice-read-byte-of-2 Inv-loop μ-loop
-shared-slice-read-byte-of-2 c = search needs
-
-byte-of-requires : tie.Need-byte-of-requires Inv-loop μ-loop
-byte-of-requires c κs = search needs
-
 add-result-2 : tie.Need-add-result-2 Inv-loop μ-loop
 add-result-2 c = search needs
 
@@ -46,6 +34,18 @@ same-length-2 c = search needs
 
 returns-2 : tie.Need-returns-2 Inv-loop μ-loop
 returns-2 c = search needs
+
+slice-read-byte-of : tie.Need-slice-read-byte-of Inv-loop μ-loop
+slice-read-byte-of c = search needs
+
+add-byte-of : tie.Need-add-byte-of Inv-loop μ-loop
+add-byte-of c = search needs
+
+slice-read-byte-of-2 : tie.Need-slice-read-byte-of-2 Inv-loop μ-loop
+slice-read-byte-of-2 c = search needs
+
+byte-of-requires : tie.Need-byte-of-requires Inv-loop μ-loop
+byte-of-requires c κs = search needs
 
 add-result-3 : tie.Need-add-result-3 Inv-loop μ-loop
 add-result-3 c = search needs
@@ -56,11 +56,11 @@ same-length-3 c = search needs
 returns-3 : tie.Need-returns-3 Inv-loop μ-loop
 returns-3 c = search needs
 
-cast-bytes : tie.Need-cast-bytes Inv-loop μ-loop
-cast-bytes c = search needs
+cast-line : tie.Need-cast-line Inv-loop μ-loop
+cast-line c = search needs
 
-slice-write-bytes : tie.Need-slice-write-bytes Inv-loop μ-loop
-slice-write-bytes c = search needs
+slice-write-line : tie.Need-slice-write-line Inv-loop μ-loop
+slice-write-line c = search needs
 
 add-n : tie.Need-add-n Inv-loop μ-loop
 add-n c = search needs
@@ -91,18 +91,18 @@ bytes-from-spec =
     add-result
     same-length
     returns
-    shared-slice-read-byte-of
-    add-byte-of
-    shared-slice-read-byte-of-2
-    byte-of-requires
     add-result-2
     same-length-2
     returns-2
+    slice-read-byte-of
+    add-byte-of
+    slice-read-byte-of-2
+    byte-of-requires
     add-result-3
     same-length-3
     returns-3
-    cast-bytes
-    slice-write-bytes
+    cast-line
+    slice-write-line
     add-n
     add-i
     loop-less

@@ -6,10 +6,10 @@ use Rattle.replay.proofs.take_bytes.Statement.{statement}
 use Rattle.replay.proofs.take_bytes.Tie as tie
 
 abbrev Inv-loop : tie.InvT-loop
-Inv-loop input line₀ n bytes₀ t₀ out₀ held₀ i₀ line bytes t out held i = (length line ≡ length line₀) × (length bytes ≡ length bytes₀) × (length t ≡ length t₀) × (length out ≡ length out₀)
+Inv-loop input line₀ n t₀ held₀ i₀ line t held i = (length line ≡ length line₀) × (length t ≡ length t₀)
 
 abbrev μ-loop : tie.MeasureT-loop
-μ-loop input line₀ n bytes₀ t₀ out₀ held₀ i₀ line bytes t out held i = length input - i
+μ-loop input line₀ n t₀ held₀ i₀ line t held i = length input - i
 
 loop-holds : tie.Need-loop-holds Inv-loop μ-loop
 loop-holds c = search needs
@@ -35,12 +35,6 @@ same-length c = search needs
 same-length-2 : tie.Need-same-length-2 Inv-loop μ-loop
 same-length-2 c = search needs
 
-same-length-3 : tie.Need-same-length-3 Inv-loop μ-loop
-same-length-3 c = search needs
-
-same-length-4 : tie.Need-same-length-4 Inv-loop μ-loop
-same-length-4 c = search needs
-
 returns : tie.Need-returns Inv-loop μ-loop
 returns c = search needs
 
@@ -58,6 +52,4 @@ take-bytes-spec =
     loop-again
     same-length
     same-length-2
-    same-length-3
-    same-length-4
     returns)

@@ -1,15 +1,14 @@
 use borrow.Author.Needs.{needs}
-use mathlib.Core.Path.{_≡_}
-use Prim.Native.Nat.{_-_}
+use Prim.Native.Nat.{_≤_, _-_}
 use lib.ListN.{length}
-use Rattle.replay.proofs.put_words.Statement.{statement}
-use Rattle.replay.proofs.put_words.Tie as tie
+use Rattle.replay.proofs.say_words.Statement.{statement}
+use Rattle.replay.proofs.say_words.Tie as tie
 
 abbrev Inv-loop : tie.InvT-loop
-Inv-loop out₀ n t waiting₀ i₀ out waiting i = length out ≡ length out₀
+Inv-loop t i₀ i = i ≤ length t
 
 abbrev μ-loop : tie.MeasureT-loop
-μ-loop out₀ n t waiting₀ i₀ out waiting i = length t - i
+μ-loop t i₀ i = length t - i
 
 loop-holds : tie.Need-loop-holds Inv-loop μ-loop
 loop-holds c = search needs
@@ -23,8 +22,8 @@ shared-slice-read-wide c = search needs
 wide-requires : tie.Need-wide-requires Inv-loop μ-loop
 wide-requires c κs = search needs
 
-put-word-requires : tie.Need-put-word-requires Inv-loop μ-loop
-put-word-requires c κs = search needs
+say-word-requires : tie.Need-say-word-requires Inv-loop μ-loop
+say-word-requires c κs = search needs
 
 add-i : tie.Need-add-i Inv-loop μ-loop
 add-i c = search needs
@@ -35,14 +34,11 @@ loop-less c = search needs
 loop-again : tie.Need-loop-again Inv-loop μ-loop
 loop-again c = search needs
 
-same-length : tie.Need-same-length Inv-loop μ-loop
-same-length c = search needs
-
 returns : tie.Need-returns Inv-loop μ-loop
 returns c = search needs
 
-pub put-words-spec : {M : Type 1} → statement M
-put-words-spec =
+pub say-words-spec : {M : Type 1} → statement M
+say-words-spec =
     tie.close
     (tie.spec
     Inv-loop
@@ -51,9 +47,8 @@ put-words-spec =
     mul-wide
     shared-slice-read-wide
     wide-requires
-    put-word-requires
+    say-word-requires
     add-i
     loop-less
     loop-again
-    same-length
     returns)
