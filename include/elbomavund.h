@@ -3,10 +3,15 @@
  * not NULL (any address will do where the length is 0), aligned, valid for as many elements as is said, and what is
  * written overlaps nothing else. No function allocates, keeps a pointer, or calls anything outside the library.
  *
- * Link libreader.a (`rt staticlib reader` writes it to target/staticlib).
+ * Link libreader.a (`rt staticlib reader` writes it to target/staticlib): cc -Iinclude main.c target/staticlib/libreader.a
+ *
+ * docs/RULES.md begins with what a caller must know: look at the byte after `taken`; ask rule 22 before rule 23; a bytes node was
+ * quoted, and has backslashes to undo, if the byte before its start is a quote; how large a table must be.
  */
 #ifndef ELBOMAVUND_H
 #define ELBOMAVUND_H
+
+#define ELBOMAVUND_VERSION "0.2.0"
 
 #include <stddef.h>
 #include <stdint.h>
@@ -36,7 +41,8 @@ enum {
  * Where out_length is less than 4, nothing is written to out.
  *
  * Where the answer is 0, table[0 .. 4 * nodes) holds the nodes, four words each: kind, a, b, nodes in this subtree.
- * No other word of the table is written, and none at all where the answer is not 0. */
+ * No other word of the table is written, and none at all where the answer is not 0. 16 * length + 4 words are always enough;
+ * where there are fewer and the answer is 4, a second call with 4 * nodes words is accepted. */
 uint32_t elbomavund_read(uint32_t rule, const uint8_t *buffer, size_t length, uint32_t *table, size_t table_length,
                          uint64_t *out, size_t out_length);
 

@@ -1,10 +1,10 @@
 #!/usr/bin/env python3
-"""What crates/read_response and crates/attachments must write for their stored files, from document 01 and not from the programs.
+"""What crates/read_response and crates/attachments must write for their stored files, and not by way of the programs.
 
 usage: commands.py read_response | attachments      run it inside the repository
 
-The nodes are worked out by model.py, a reading of document 01; the part numbers by RFC 3501 section 6.4.5, from the
-tree and not in the programs' way.
+The nodes are worked out by model.py, from docs/RULES.md, which has the kinds and the rules' numbers too; the fields' names are
+RFC 3501's (7162's, 4315's and 5464's for 18 to 25); the part numbers are RFC 3501's, section 6.4.5, worked out from the tree.
 """
 import os
 import sys
@@ -12,6 +12,9 @@ import sys
 sys.path.insert(0, os.path.dirname(os.path.abspath(__file__)))
 import model
 
+RULES = """number number_64 quoted literal string astring nstring text sequence_set uid_set section entry_name envelope body
+appenduid copyuid uidnotsticky vanished highestmodseq modseq body_section metadata_values metadata_names envelope_item
+bodystructure""".split()
 KINDS = """number range single_uid bytes NIL absent list section_text known_encoding envelope address basic text message
 multipart disposition pair section_part BODY_item APPENDUID COPYUID UIDNOTSTICKY VANISHED VANISHED_(EARLIER) METADATA""".split()
 TAIL = "disposition language location extension"
@@ -24,8 +27,16 @@ FIELDS = {
     15: "bodies subtype parameters " + TAIL,
     16: "type parameters",
     17: "name value",
+    18: "part text",
+    19: "section index data",
+    20: "uidvalidity uids",
+    21: "uidvalidity source_uids destination_uids",
+    23: "uids",
+    24: "uids",
+    25: "mailbox entries",
 }
 ENCODINGS = ["7BIT", "8BIT", "BINARY", "BASE64", "QUOTED-PRINTABLE"]
+TEXTS = ["HEADER", "MIME", "TEXT"]
 
 
 def escaped(s):
@@ -54,21 +65,34 @@ class Node:
             i = self.children[-1].end
 
 
-def answer(s):
-    number, taken, nodes, wanted, words = model.answer(25, s, 4 * len(s) + 4)
+def answer(rule, s):
+    number, taken, nodes, wanted, words = model.answer(rule, s, 4 * len(s) + 4)
     if number == 0:
         return "accepted: answer 0, %s taken, %s" % (counted(taken, "byte"), counted(nodes, "node")), taken, Node(words, 0)
     if number == 1:
-        more = "more bytes are needed" if wanted == 0 else counted(wanted, "more byte") + (" is" if wanted == 1 else " are") + " wanted"
+        more = "more bytes are needed" if wanted == 0 else counted(wanted, "more byte") + " wanted"
         return "unfinished: answer 1, " + more, 0, None
     return {2: "not the grammar: answer 2", 3: "too deep: answer 3"}[number], 0, None
 
 
 def value(s, n):
+    """What words a and b say, behind the kind"""
+    if n.kind == 1:
+        return " %d" % (n.b << 32 | n.a)
+    if n.kind == 2:
+        return " %d..%d" % (n.a, n.b)
+    if n.kind == 3:
+        return " %d" % n.a
+    if n.kind == 6:
+        return ""
+    if n.kind == 7:
+        return " of %d" % n.a
+    if n.kind == 8:
+        return " " + TEXTS[n.a - 1]
+    if n.kind == 9:
+        return " " + ENCODINGS[n.a - 1]
     places = " [%d..%d)" % (n.a, n.b)
-    if n.kind == 4:
-        return places + " " + cut(s[n.a : n.b])
-    return {1: " %d" % (n.b << 32 | n.a), 6: "", 7: " of %d" % n.a}.get(n.kind, " " + ENCODINGS[n.a - 1] if n.kind == 9 else places)
+    return places + " " + cut(s[n.a : n.b]) if n.kind == 4 else places
 
 
 def tree(s, n, depth, field):
@@ -76,7 +100,7 @@ def tree(s, n, depth, field):
     names = FIELDS.get(n.kind, "").split()
     assert not names or len(names) == len(n.children)
     for i, child in enumerate(n.children):
-        tree(s, child, depth + 1, names[i] + ": " if names else "")
+        tree(s, child, depth + 1, names[i].replace("_", " ") + ": " if names else "")
 
 
 def bytes_of(s, n):
@@ -111,22 +135,39 @@ def parts(s, n, prefix, number):
         parts(s, field["body"], mine, None)
 
 
+def rule_number(word):
+    return int(word) if word.isdigit() else RULES.index(word.lower()) + 1
+
+
+def show(rule, name, s):
+    said, taken, top = answer(rule, s)
+    print(name + ": " + said)
+    if top:
+        if taken < len(s):
+            print(counted(len(s) - taken, "byte") + " after that")
+        tree(s, top, 0, "")
+
+
+def list_parts(name, s):
+    said, _, top = answer(25, s)
+    print(name + ": " + said)
+    if top:
+        parts(s, top, [], None)
+
+
 def main():
     crate = sys.argv[1]
     args = open("crates/%s/args" % crate).read().split()
-    for name in args[1:] if crate == "read_response" else args:
-        s = open("crates/%s/data/%s" % (crate, name), "rb").read()
-        said, taken, top = answer(s)
-        if crate == "read_response":
-            print(said)
-            if top:
-                if taken < len(s):
-                    print(counted(len(s) - taken, "byte") + " after that")
-                tree(s, top, 0, "")
-        else:
-            print(name + ": " + said)
-            if top:
-                parts(s, top, [], None)
+
+    def stored(name):
+        return open("crates/%s/data/%s" % (crate, name), "rb").read()
+
+    if crate == "read_response":
+        for rule, name in zip(args[::2], args[1::2]):
+            show(rule_number(rule), name, stored(name))
+    else:
+        for name in args:
+            list_parts(name, stored(name))
 
 
 main()

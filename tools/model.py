@@ -1,5 +1,5 @@
 #!/usr/bin/env python3
-"""Document 01's 25 rules in Python: what a reading must answer. No line of it was made from the Rattle code.
+"""The 25 rules of docs/RULES.md in Python: what a reading must answer. No line of it was made from the Rattle code.
 
 `answer(rule, s, words)` gives answer, taken, nodes, wanted and the words of the nodes, for a table of so many words.
 

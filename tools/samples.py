@@ -15,7 +15,7 @@ A row is one of these; a text stands in [ ], with \\r \\n \\t \\\\ and \\xNN for
     responses FILE                  the pieces of real responses in FILE, lines of RULE HEX # ..
     include FILE                    lines with their answers from FILE.inputs and FILE.expected, as they are
 
-What each must give is tools/model.py's answer, by document 01. Nothing here comes from the Rattle code.
+What each must give is tools/model.py's answer, by docs/RULES.md. Nothing here comes from the Rattle code.
 """
 import os
 import re

@@ -1,7 +1,7 @@
 //! The differences that docs/DIFFERENCES.md names, and how one is recognised.
 //!
 //! A difference between our side and the Rust is known only if a cause, or several together, explains it: the model of
-//! document 01, changed in just those points to what the listing does, must give exactly what the Rust gives: the answer, the
+//! docs/RULES.md, changed in just those points to what the listing does, must give exactly what the Rust gives: the answer, the
 //! bytes taken, the tree, the wanted bytes. Each cause also says where it can be one at all, by rule, answer and input.
 
 use crate::model::{self, Deviations, Four, Stop};

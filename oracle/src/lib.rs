@@ -11,7 +11,7 @@ pub mod tree;
 pub use rust::oracle;
 pub use tree::{Answer, Part, Tree};
 
-/// Document 01's rules, by number; index 0 is unused.
+/// The rules of docs/RULES.md, by number; index 0 is unused.
 pub const RULES: [&str; 26] = [
     "",
     "number",

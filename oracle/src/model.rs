@@ -1,6 +1,6 @@
-//! Document 01 in plain Rust: the reading of a rule, with nodes, levels, limits and answers 0 to 6.
+//! docs/RULES.md in plain Rust: the reading of a rule, with nodes, levels, limits and answers 0 to 6.
 //!
-//! It is written from document 01, apart from the definition in antt and from the code in Rattle. It says what the Rust does
+//! It is written from docs/RULES.md, apart from the definition in antt and from the code in Rattle. It says what the Rust does
 //! not keep (ranges, subtree counts), stands in for the port until that is linked, and is the port's second judge after that.
 //!
 //! `Deviations` turn single points into what the listing does there. known.rs uses them to say why the two differ.
@@ -25,7 +25,7 @@ impl Four {
     }
 }
 
-/// Points in which the listing does otherwise than document 01.
+/// Points in which the listing does otherwise than docs/RULES.md.
 #[derive(Clone, Copy, Debug, Default, PartialEq, Eq)]
 pub struct Deviations {
     /// NIL is read as the encoding 7BIT

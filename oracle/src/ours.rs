@@ -9,7 +9,7 @@ use crate::model::Four;
 #[cfg(feature = "port")]
 pub const NAME: &str = "the port (elbomavund_read)";
 #[cfg(not(feature = "port"))]
-pub const NAME: &str = "the model of document 01; the port is NOT in this comparison";
+pub const NAME: &str = "the model of docs/RULES.md; the port is NOT in this comparison";
 
 #[cfg(feature = "port")]
 #[link(name = "reader", kind = "static")]

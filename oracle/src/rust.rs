@@ -14,7 +14,7 @@ use nom::{Err, IResult, Needed};
 
 use crate::tree::{Answer, Part, Tree};
 
-/// What the Rust answers for a rule of document 01. Panics are caught. A rule that there is none of is an Error.
+/// What the Rust answers for a rule of docs/RULES.md. Panics are caught. A rule that there is none of is an Error.
 pub fn oracle(rule: u32, bytes: &[u8]) -> Answer {
     static QUIET: Once = Once::new();
     QUIET.call_once(|| {

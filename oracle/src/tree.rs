@@ -16,7 +16,7 @@ impl PartialEq for Part {
     }
 }
 
-/// What was read. Children stand in document 01's order. Kinds 5 and 6 are both `None`.
+/// What was read. Children stand in the order of docs/RULES.md. Kinds 5 and 6 are both `None`.
 #[derive(Clone, Debug, PartialEq)]
 pub enum Tree {
     None,
@@ -49,7 +49,7 @@ pub enum Answer {
 }
 
 impl Answer {
-    /// What document 01 calls wanted.
+    /// What docs/RULES.md calls wanted.
     pub fn wanted(&self) -> usize {
         match self {
             Answer::Incomplete { needed, literal: true } => needed.unwrap_or(0),
@@ -68,10 +68,10 @@ impl Answer {
     }
 }
 
-/// A node as document 01 has it: kind, a, b, nodes in its subtree.
+/// A node as docs/RULES.md has it: kind, a, b, nodes in its subtree.
 pub type Node = [u32; 4];
 
-/// The tree of an accepted reading's nodes, or what is wrong with them. Everything that document 01 says of the words is
+/// The tree of an accepted reading's nodes, or what is wrong with them. Everything that docs/RULES.md says of the words is
 /// checked here: counts, kinds in their places, ranges in order and inside what was taken.
 pub fn from_nodes(rule: u32, buffer: &[u8], taken: usize, nodes: &[Node]) -> Result<Tree, String> {
     let mut w = Walk { buffer, taken, nodes };

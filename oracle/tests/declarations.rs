@@ -162,7 +162,7 @@ fn the_order_of_answers_5_and_6() {
     assert_eq!(ask(14, &[b'('; 17], 0), [3, 0, 0, 0]);
 }
 
-/// What document 01 says of a view: the answer, offset and length.
+/// What docs/RULES.md says of a view: the answer, offset and length.
 fn viewed(length: usize, table: &[u32], node: usize) -> (u32, [u64; 2]) {
     if node < table.len() / 4 {
         let [kind, start, end] = [0, 1, 2].map(|i| table[4 * node + i] as usize);

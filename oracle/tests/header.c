@@ -15,7 +15,7 @@ _Static_assert(sizeof(size_t) == sizeof(void *), "a size_t is a usize");
 _Static_assert(ELBOMAVUND_ACCEPTED == 0 && ELBOMAVUND_UNFINISHED == 1 && ELBOMAVUND_NOT_THE_GRAMMAR == 2
                    && ELBOMAVUND_TOO_DEEP == 3 && ELBOMAVUND_NO_ROOM == 4 && ELBOMAVUND_UNKNOWN_RULE == 5
                    && ELBOMAVUND_TOO_LONG == 6 && ELBOMAVUND_NO_SUCH_CONTENT == 7,
-               "document 01's answers");
+               "the answers of docs/RULES.md");
 
 #define MARK UINT32_C(0xdeadbeef)
 #define MARK_64 UINT64_C(0xdeadbeef0badcafe)

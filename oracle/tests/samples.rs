@@ -1,4 +1,4 @@
-//! Document 01's sample readings, on our side and on the Rust; and the shape of the declarations in src/ours.rs.
+//! The sample readings of docs/RULES.md, on our side and on the Rust; and the shape of the declarations in src/ours.rs.
 
 use elbomavund_oracle::tree::{from_nodes, Answer, Node};
 use elbomavund_oracle::{oracle, ours};

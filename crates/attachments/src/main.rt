@@ -57,18 +57,23 @@ fn disposition_field(kind: u32) -> usize {
 // ----- names -----
 
 // A parameter as the server sent it.
-fn say_parameter(s: &[u8], t: &[u32], pair: usize) {
-    say(b", ");
-    command_line::say_bytes(views::view(s, t, child(t, pair, 0)));
-    say(b" ");
-    command_line::say_quoted(views::view(s, t, child(t, pair, 1)));
+fn say_parameter(out: &mut [u8], n: usize, s: &[u8], t: &[u32], pair: usize) -> usize
+    ensures { λ r. ⌜ r ≤ length (now (out .exit)) ⌝ }
+{
+    let n = say(out, n, b", ");
+    let n = say_child(out, n, s, t, pair, 0);
+    let n = say(out, n, b" ");
+    command_line::say_quoted(out, n, views::view(s, t, child(t, pair, 1)))
 }
 
-fn say_if_named(s: &[u8], t: &[u32], pair: usize, word: &[u8]) {
+fn say_if_named(out: &mut [u8], n: usize, s: &[u8], t: &[u32], pair: usize, word: &[u8]) -> usize
+    ensures { λ r. ⌜ r ≤ length (now (out .exit)) ⌝ }
+{
     let name = child(t, pair, 0);
     if command_line::is_parameter(views::view(s, t, name), word) {
-        say_parameter(s, t, pair);
+        return say_parameter(out, n, s, t, pair);
     }
+    say(out, n, b"")
 }
 
 // The sibling behind a node, or the limit.
@@ -83,80 +88,109 @@ fn next(t: &[u32], at: usize, limit: usize) -> usize
 }
 
 // Those of the pairs from a place on that have this name, or one of RFC 2231's forms of it.
-fn say_named_pairs(s: &[u8], t: &[u32], first: usize, limit: usize, word: &[u8]) {
+fn say_named_pairs(
+    out: &mut [u8],
+    n: usize,
+    s: &[u8],
+    t: &[u32],
+    first: usize,
+    limit: usize,
+    word: &[u8],
+) -> usize
+    ensures { λ r. ⌜ r ≤ length (now (out .exit)) ⌝ }
+{
+    let mut n = say(out, n, b"");
     let mut at = first;
     while at < limit {
-        say_if_named(s, t, at, word);
+        n = say_if_named(out, n, s, t, at, word);
         at = next(t, at, limit);
     }
+    n
 }
 
 // The same of a list, or of NIL, which has none.
-fn say_named(s: &[u8], t: &[u32], list: usize, word: &[u8]) {
+fn say_named(out: &mut [u8], n: usize, s: &[u8], t: &[u32], list: usize, word: &[u8]) -> usize
+    ensures { λ r. ⌜ r ≤ length (now (out .exit)) ⌝ }
+{
     let Place::At(limit) = walker::end_of(t, list) else {
-        return;
+        return say(out, n, b"");
     };
     let Place::At(first) = walker::first_child(t, list) else {
-        return;
+        return say(out, n, b"");
     };
-    say_named_pairs(s, t, first, limit, word);
+    say_named_pairs(out, n, s, t, first, limit, word)
 }
 
 // The disposition's type and its file name, where there is one.
-fn say_disposition(s: &[u8], t: &[u32], at: usize) {
-    if walker::kind_at(t, at) == grammar::KIND_DISPOSITION {
-        say(b", ");
-        command_line::say_bytes(views::view(s, t, child(t, at, 0)));
-        say_named(s, t, child(t, at, 1), b"FILENAME");
+fn say_disposition(out: &mut [u8], n: usize, s: &[u8], t: &[u32], at: usize) -> usize
+    ensures { λ r. ⌜ r ≤ length (now (out .exit)) ⌝ }
+{
+    if walker::kind_at(t, at) != grammar::KIND_DISPOSITION {
+        return say(out, n, b"");
     }
+    let n = say(out, n, b", ");
+    let n = say_child(out, n, s, t, at, 0);
+    say_named(out, n, s, t, child(t, at, 1), b"FILENAME")
 }
 
 // ----- a part -----
 
-fn say_child(s: &[u8], t: &[u32], at: usize, n: usize) {
-    command_line::say_bytes(views::view(s, t, child(t, at, n)));
+fn say_child(out: &mut [u8], n: usize, s: &[u8], t: &[u32], at: usize, which: usize) -> usize
+    ensures { λ r. ⌜ r ≤ length (now (out .exit)) ⌝ }
+{
+    command_line::say_bytes(out, n, views::view(s, t, child(t, at, which)))
 }
 
-fn say_basic_type(s: &[u8], t: &[u32], at: usize) {
-    say_child(s, t, at, 0);
-    say(b"/");
-    say_child(s, t, at, 1);
+fn say_basic_type(out: &mut [u8], n: usize, s: &[u8], t: &[u32], at: usize) -> usize
+    ensures { λ r. ⌜ r ≤ length (now (out .exit)) ⌝ }
+{
+    let n = say_child(out, n, s, t, at, 0);
+    let n = say(out, n, b"/");
+    say_child(out, n, s, t, at, 1)
 }
 
-fn say_text_type(s: &[u8], t: &[u32], at: usize) {
-    say(b"text/");
-    say_child(s, t, at, 0);
+fn say_text_type(out: &mut [u8], n: usize, s: &[u8], t: &[u32], at: usize) -> usize
+    ensures { λ r. ⌜ r ≤ length (now (out .exit)) ⌝ }
+{
+    let n = say(out, n, b"text/");
+    say_child(out, n, s, t, at, 0)
 }
 
-fn say_type(s: &[u8], t: &[u32], at: usize, kind: u32) {
+fn say_type(out: &mut [u8], n: usize, s: &[u8], t: &[u32], at: usize, kind: u32) -> usize
+    ensures { λ r. ⌜ r ≤ length (now (out .exit)) ⌝ }
+{
     match kind {
-        grammar::KIND_TEXT => say_text_type(s, t, at),
-        grammar::KIND_MESSAGE => say(b"message/rfc822"),
-        _ => say_basic_type(s, t, at),
+        grammar::KIND_TEXT => say_text_type(out, n, s, t, at),
+        grammar::KIND_MESSAGE => say(out, n, b"message/rfc822"),
+        _ => say_basic_type(out, n, s, t, at),
     }
 }
 
 // The size, as the server counts it: of the encoded bytes.
-fn say_octets(t: &[u32], at: usize) {
-    if let Node::Words {
+fn say_octets(out: &mut [u8], n: usize, t: &[u32], at: usize) -> usize
+    ensures { λ r. ⌜ r ≤ length (now (out .exit)) ⌝ }
+{
+    let Node::Words {
         kind: _,
         a,
         b: _,
         nodes: _,
-    } = walker::look(t, at) {
-        say(b", ");
-        command_line::say_count(a as u64, b"octet");
-    }
+    } = walker::look(t, at)
+    else {
+        return say(out, n, b"");
+    };
+    let n = say(out, n, b", ");
+    command_line::say_count(out, n, a as u64, b" octet")
 }
 
 // A part's line behind its number.
-fn say_part(s: &[u8], t: &[u32], at: usize, kind: u32) {
-    say(b" ");
-    say_type(s, t, at, kind);
-    say_octets(t, child(t, at, octets_field(kind)));
-    say_named(s, t, child(t, at, parameters_field(kind)), b"NAME");
-    say_disposition(s, t, child(t, at, disposition_field(kind)));
-    say(b"\n");
+fn say_part(out: &mut [u8], n: usize, s: &[u8], t: &[u32], at: usize, kind: u32) -> usize
+    ensures { λ r. ⌜ r ≤ length (now (out .exit)) ⌝ }
+{
+    let n = say_type(out, n, s, t, at, kind);
+    let n = say_octets(out, n, t, child(t, at, octets_field(kind)));
+    let n = say_named(out, n, s, t, child(t, at, parameters_field(kind)), b"NAME");
+    say_disposition(out, n, s, t, child(t, at, disposition_field(kind)))
 }
 
 // ----- part numbers -----
@@ -193,25 +227,33 @@ fn start_count(counts: &mut [u64; DEEPEST], level: usize) {
     }
 }
 
-fn say_count_at(counts: &[u64; DEEPEST], level: usize) {
-    if level < DEEPEST {
-        say_number(counts[level]);
+fn say_count_at(out: &mut [u8], n: usize, counts: &[u64; DEEPEST], level: usize) -> usize
+    ensures { λ r. ⌜ r ≤ length (now (out .exit)) ⌝ }
+{
+    if DEEPEST <= level {
+        return say(out, n, b"");
     }
+    say_number(out, n, counts[level])
 }
 
-fn say_dot() {
-    say(b".");
+fn say_deeper_count(out: &mut [u8], n: usize, counts: &[u64; DEEPEST], level: usize) -> usize
+    ensures { λ r. ⌜ r ≤ length (now (out .exit)) ⌝ }
+{
+    let n = say(out, n, b".");
+    say_count_at(out, n, counts, level)
 }
 
 // The counts of the levels below this depth, with dots between them.
-fn say_part_number(counts: &[u64; DEEPEST], depth: usize) {
-    say_count_at(counts, 0);
+fn say_part_number(out: &mut [u8], n: usize, counts: &[u64; DEEPEST], depth: usize) -> usize
+    ensures { λ r. ⌜ r ≤ length (now (out .exit)) ⌝ }
+{
+    let mut n = say_count_at(out, n, counts, 0);
     let mut level: usize = 1;
     while level < depth {
-        say_dot();
-        say_count_at(counts, level);
+        n = say_deeper_count(out, n, counts, level);
         level += 1;
     }
+    n
 }
 
 // One part more of what holds it, which is at the last level.
@@ -252,7 +294,6 @@ fn multipart(
 }
 
 fn single(
-    s: &[u8],
     t: &[u32],
     at: usize,
     depth: usize,
@@ -260,21 +301,16 @@ fn single(
     counts: &mut [u64; DEEPEST],
     fresh: &mut [bool; DEEPEST],
 ) -> usize {
-    let kind = walker::kind_at(t, at);
     met(counts, fresh, depth);
-    say(b"  ");
-    say_part_number(counts, depth);
-    say_part(s, t, at, kind);
-    if kind != grammar::KIND_MESSAGE {
+    if walker::kind_at(t, at) != grammar::KIND_MESSAGE {
         return depth;
     }
     set_fresh(fresh, depth, true);
     hold(t, at, depth, ends, counts)
 }
 
-// A node that is no body changes nothing.
+// The depth behind a node; one that is no body changes nothing.
 fn node(
-    s: &[u8],
     t: &[u32],
     at: usize,
     depth: usize,
@@ -289,76 +325,133 @@ fn node(
     if kind == grammar::KIND_MULTIPART {
         return multipart(t, at, depth, ends, counts, fresh);
     }
-    single(s, t, at, depth, ends, counts, fresh)
+    single(t, at, depth, ends, counts, fresh)
 }
 
-fn say_parts(s: &[u8], t: &[u32], nodes: usize) {
+fn say_numbered(
+    out: &mut [u8],
+    n: usize,
+    s: &[u8],
+    t: &[u32],
+    at: usize,
+    counts: &[u64; DEEPEST],
+    depth: usize,
+) -> usize
+    ensures { λ r. ⌜ r ≤ length (now (out .exit)) ⌝ }
+{
+    let n = say(out, n, b"  ");
+    let n = say_part_number(out, n, counts, depth);
+    let n = say(out, n, b" ");
+    let n = say_part(out, n, s, t, at, walker::kind_at(t, at));
+    say(out, n, b"\n")
+}
+
+// The line of a node that is a body and no multipart.
+fn say_line(
+    out: &mut [u8],
+    n: usize,
+    s: &[u8],
+    t: &[u32],
+    at: usize,
+    counts: &[u64; DEEPEST],
+    depth: usize,
+) -> usize
+    ensures { λ r. ⌜ r ≤ length (now (out .exit)) ⌝ }
+{
+    let kind = walker::kind_at(t, at);
+    if kind < grammar::KIND_BASIC || grammar::KIND_MESSAGE < kind {
+        return say(out, n, b"");
+    }
+    say_numbered(out, n, s, t, at, counts, depth)
+}
+
+fn say_parts(out: &mut [u8], n: usize, s: &[u8], t: &[u32], nodes: usize) -> usize
+    ensures { λ r. ⌜ r ≤ length (now (out .exit)) ⌝ }
+{
     let mut ends = [0usize; DEEPEST];
     let mut counts = [0u64; DEEPEST];
     let mut fresh = [true; DEEPEST];
     let mut depth = command_line::opened(&mut ends, 0, nodes);
+    let mut n = say(out, n, b"");
     let mut at: usize = 0;
     while at < nodes {
-        depth = command_line::open_at(&ends, depth, at);
-        depth = node(s, t, at, depth, &mut ends, &mut counts, &mut fresh);
+        let holder = command_line::open_at(&ends, depth, at);
+        depth = node(t, at, holder, &mut ends, &mut counts, &mut fresh);
+        n = say_line(out, n, s, t, at, &counts, holder);
         at += 1;
     }
+    n
 }
 
 // ----- files -----
 
-fn list(s: &[u8], t: &mut [u32]) {
-    let r = reader::read(25, s, t);
-    command_line::say_answer(r, t.len() / 4);
-    say(b"\n");
-    if let Answer::Accepted { taken: _, nodes } = r {
-        say_parts(s, t, nodes);
-    }
+fn say_accepted(out: &mut [u8], n: usize, r: Answer, s: &[u8], t: &[u32]) -> usize
+    ensures { λ r. ⌜ r ≤ length (now (out .exit)) ⌝ }
+{
+    let Answer::Accepted { taken: _, nodes } = r else {
+        return say(out, n, b"");
+    };
+    say_parts(out, n, s, t, nodes)
 }
 
-fn list_loaded(path: &[u8], loaded: Loaded, buf: &[u8], t: &mut [u32])
+// The exit status is returned, here and below.
+fn list(path: &[u8], s: &[u8], t: &mut [u32]) -> u8 {
+    let r = reader::read(25, s, t);
+    let mut space = io::large_buffer();
+    let out: &mut [u8] = &mut space;
+    let n = command_line::say_heading(out, 0, path);
+    let n = command_line::say_answer(out, n, r, t.len() / 4);
+    let n = say(out, n, b"\n");
+    let n = say_accepted(out, n, r, s, t);
+    command_line::sent(b"attachments", out, n, command_line::status_of(r))
+}
+
+fn list_loaded(path: &[u8], loaded: Loaded, buf: &[u8], t: &mut [u32]) -> u8
     requires { ⌜ Loads loaded (length (now buf)) ⌝ }
 {
     if let Loaded::Bytes(n) = loaded {
-        command_line::say_bytes(path);
-        say(b": ");
-        list(&buf[..n], t);
+        return list(path, &buf[..n], t);
     }
+    3
 }
 
-fn list_file(i: usize, buf: &mut [u8], t: &mut [u32]) {
+fn list_file(i: usize, buf: &mut [u8], t: &mut [u32]) -> u8 {
     let mut path = io::buffer();
     let n = os::arg(i, &mut path);
     if os::errno() != 0 {
         os::fail(b"attachments: cannot open FILE");
-        return;
+        return 3;
     }
     let loaded = command_line::load_file(b"attachments", &path[..n], buf);
-    list_loaded(&path[..n], loaded, buf, t);
+    list_loaded(&path[..n], loaded, buf, t)
 }
 
-fn list_files(buf: &mut [u8], t: &mut [u32]) {
+fn list_files(buf: &mut [u8], t: &mut [u32]) -> u8 {
     let files = os::arg_count();
+    let mut status: u8 = 0;
     let mut i: usize = 1;
     while i < files {
-        list_file(i, buf, t);
+        let more = list_file(i, buf, t);
+        status = command_line::worse(status, more);
         i += 1;
     }
+    status
 }
 
-fn answer(buf: &mut [u8], t: &mut [u32]) {
+fn answer(buf: &mut [u8], t: &mut [u32]) -> u8 {
     if os::arg_count() < 2 {
-        say(
-            b"usage: attachments FILE...\nlists the parts of each FILE's BODYSTRUCTURE item, with their names\n",
+        io::write_all(
+            2,
+            b"attachments: wrong usage; attachments FILE ..; attachments --help says more\n",
         );
-        return;
+        return 3;
     }
-    list_files(buf, t);
+    list_files(buf, t)
 }
 
 // Arrays, and not slices, so that nothing has to be computed of a million bytes.
 fn with_room(buf: &mut [u8; 1048577], t: &mut [u32; 786432]) {
-    answer(buf, t);
+    command_line::leave(answer(buf, t));
 }
 
 fn main() {

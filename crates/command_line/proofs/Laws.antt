@@ -8,7 +8,7 @@ use lib.ListN.{length, take, drop, getD, set, drop-of-length-le}
 use lib.Seq.{drop-cons, take-all, length-take-le}
 use lib.Dec.{leb, eqb}
 use borrow.Author.Tests.{eq-eqb, ne-eqb, le-leb, lt-leb}
-use Rattle.grammar.specs.Out.{pick}
+use Rattle.grammar.specs.Out.{branch}
 use Rattle.grammar.specs.Scan.{capital, digit, largest-32}
 use Rattle.command_line.specs.declared.Rule.{Rule}
 use Rattle.command_line.specs.declared.Rule.the-variants.{Number, Unknown}
@@ -149,7 +149,7 @@ one-less n row l = omega arith
 
 step-find : (names name : List ℕ) (row : ℕ) → row < rows names
     → find-from names name (rows names - row) row
-    ≡ pick (same-word (cell names row) name) (λ u. row) (λ u. find-from names name (rows names - (row + 1)) (row + 1))
+    ≡ branch (same-word (cell names row) name) (λ u. row) (λ u. find-from names name (rows names - (row + 1)) (row + 1))
 unfolding find-from
 step-find names name row l = ap (λ (n : ℕ). find-from names name n row) (one-less (rows names) row l)
 
@@ -174,9 +174,9 @@ module _ {names name : List ℕ} {row : ℕ} (g : Looking names name row) where
 
   module _ (l : row < rows names) where
     after-test : {t : Bool} → same-word (cell names row) name ≡ t
-        → pick t (λ u. row) (λ u. find-from names name (rows names - (row + 1)) (row + 1)) ≡ find-name names name
+        → branch t (λ u. row) (λ u. find-from names name (rows names - (row + 1)) (row + 1)) ≡ find-name names name
     after-test e =
-        sym (ap (λ (t : Bool). pick t (λ u. row) (λ u. find-from names name (rows names - (row + 1)) (row + 1))) e)
+        sym (ap (λ (t : Bool). branch t (λ u. row) (λ u. find-from names name (rows names - (row + 1)) (row + 1))) e)
         ∙ sym (step-find names name row l)
         ∙ g .same
 
@@ -190,8 +190,8 @@ module _ {names name : List ℕ} {row : ℕ} (g : Looking names name row) where
 
 step-decimal : (s : List ℕ) (i value : ℕ) → i < length s
     → decimal-from value (drop i s)
-    ≡ pick (digit (getD s i 0))
-    (λ u. pick (leb (value * 10 + (getD s i 0 - 48)) largest-32)
+    ≡ branch (digit (getD s i 0))
+    (λ u. branch (leb (value * 10 + (getD s i 0 - 48)) largest-32)
     (λ v. decimal-from (value * 10 + (getD s i 0 - 48)) (drop (i + 1) s)) (λ v. Unknown)) (λ u. Unknown)
 unfolding decimal-from
 step-decimal s i value l = rw (drop-next s i l)
@@ -261,7 +261,7 @@ module _ (names name : List ℕ) where
   found-below (suc more) row = whichever (same-word (cell names row) name) (found-below more (row + 1))
     where
       whichever : (t : Bool) → find-from names name more (row + 1) ≤ row + 1 + more
-          → pick t (λ u. row) (λ u. find-from names name more (row + 1)) ≤ row + suc more
+          → branch t (λ u. row) (λ u. find-from names name more (row + 1)) ≤ row + suc more
       whichever true l = omega arith
       whichever false l = omega arith
 
@@ -289,7 +289,7 @@ less-one : (d : ℕ) → suc d - 1 ≡ d
 less-one d = omega arith
 
 step-open : (ends : List ℕ) (d at : ℕ) → 0 < d
-    → open-at ends d at ≡ pick (closed ends (d - 1) at) (λ u. open-at ends (d - 1) at) (λ u. d)
+    → open-at ends d at ≡ branch (closed ends (d - 1) at) (λ u. open-at ends (d - 1) at) (λ u. d)
 unfolding open-at
 step-open ends zero at l = absurd (omega arith)
 step-open ends (suc d) at l = rw (less-one d)

@@ -1,13 +1,13 @@
-//! What the commands share: words compared and looked up, the names of rules, kinds and fields, bytes made printable, answers
-//! in words, and files read whole. specs/Words.antt says what each function that only computes gives; what is written to
-//! a terminal or read from a file no promise can say.
+//! What the commands share: words compared and looked up, the names of rules and kinds, bytes made printable, answers
+//! in words and as exit statuses, and files read whole. specs/Words.antt says what each function that only computes gives;
+//! what is written to a terminal or read from a file no promise can say.
 
 use reader::Answer;
 use walker::Place;
 ghost use mathlib.Core.Path.{_≡_};
-ghost use Prim.Native.Nat.{ℕ, _≤_};
+ghost use Prim.Native.Nat.{ℕ, _+_, _≤_, max};
 ghost use lib.ListN.{length};
-ghost use Rattle.command_line.specs.Words.{same-word, parameter, before-dot, cell, find-name, rule-names, decimal, numbered, rule-asked, closed, open-at, Opens, subtree-end, Loads};
+ghost use Rattle.command_line.specs.Words.{same-word, parameter, before-dot, cell, find-name, rule-names, decimal, numbered, rule-asked, closed, open-at, Opens, subtree-end, Loads, status-of};
 
 // A rule that was asked for by number or by name.
 pub enum Rule {
@@ -94,36 +94,36 @@ pub fn find_name(names: &[u8], name: &[u8]) -> usize
     0
 }
 
-// The rules' names, by their numbers: document 01's, in capitals.
+// The rules' names, by their numbers: docs/RULES.md has the rules.
 fn rule_name_row(name: &[u8]) -> usize
     ensures { λ r. ⌜ r ≡ find-name rule-names (now (name .entry)) ⌝ }
 {
     find_name(
         b"....................\
-          NUMBER..............\
-          NUMBER64............\
-          QUOTED..............\
-          LITERAL.............\
-          STRING..............\
-          ASTRING.............\
-          NSTRING.............\
-          TEXT................\
-          SEQUENCE-SET........\
-          UID-SET.............\
-          SECTION.............\
-          ENTRY-NAME..........\
-          ENVELOPE-FIELDS.....\
-          BODY................\
+          number..............\
+          number_64...........\
+          quoted..............\
+          literal.............\
+          string..............\
+          astring.............\
+          nstring.............\
+          text................\
+          sequence_set........\
+          uid_set.............\
+          section.............\
+          entry_name..........\
+          envelope............\
+          body................\
           APPENDUID...........\
           COPYUID.............\
           UIDNOTSTICKY........\
           VANISHED............\
           HIGHESTMODSEQ.......\
           MODSEQ..............\
-          BODY-SECTION........\
-          METADATA-VALUES.....\
-          METADATA-NAMES......\
-          ENVELOPE............\
+          BODY_section........\
+          METADATA_values.....\
+          METADATA_names......\
+          ENVELOPE_item.......\
           BODYSTRUCTURE.......",
         name,
     )
@@ -180,7 +180,7 @@ pub fn rule_asked(s: &[u8]) -> Rule
 
 // ----- nodes in the table's order, with the ends of the subtrees that are open -----
 
-// How many subtrees are kept open: more than document 01's 16 levels can nest.
+// How many subtrees are kept open: more than the 16 levels of docs/RULES.md can nest.
 pub const DEEPEST: usize = 128;
 
 // Whether the subtree open at this level ends before a node.
@@ -231,45 +231,125 @@ pub fn subtree_end(t: &[u32], at: usize) -> usize
 
 // ----- output -----
 
-pub fn say(text: &[u8]) {
-    io::write_all(1, text);
-}
+// What is said is gathered in `out`, of which the first n bytes wait to be written; who says something returns the new n.
+// Where n is the buffer's length a write has failed, and nothing more is written.
 
-pub fn say_number(n: u64) {
-    io::print_decimal(1, n);
-}
-
-// A number and what is counted: `1 byte`, `2 bytes`.
-pub fn say_count(n: u64, what: &[u8]) {
-    say_number(n);
-    say(b" ");
-    say(what);
-    if n != 1 {
-        say(b"s");
+// 0; or the buffer's length, where the write failed.
+fn send(fd: i32, bytes: &[u8], length: usize) -> usize
+    ensures { λ r. ⌜ r ≤ length ⌝ }
+{
+    if io::write_all(fd, bytes) {
+        return 0;
     }
+    length
 }
 
-fn say_one_level() {
-    say(b"  ");
+// Writes what waits.
+fn flush(fd: i32, out: &[u8], n: usize) -> usize
+    ensures { λ r. ⌜ r ≤ length (now (out .entry)) ⌝ }
+{
+    if out.len() <= n {
+        return out.len();
+    }
+    send(fd, &out[..n], out.len())
 }
 
-// The two spaces of each level of a tree.
-pub fn say_indent(depth: usize) {
+// The same, where so many bytes more do not fit behind what waits.
+fn make_room(out: &[u8], n: usize, more: usize) -> usize {
+    if n < out.len() && out.len() - n <= more {
+        return flush(1, out, n);
+    }
+    n
+}
+
+fn copy(out: &mut [u8], n: usize, text: &[u8])
+    requires { ⌜ n + length (now text) ≤ length (now out) ⌝ }
+{
     let mut i: usize = 0;
-    while i < depth {
-        say_one_level();
+    while i < text.len() {
+        out[n + i] = text[i];
         i += 1;
     }
 }
 
-// A name of a table.
-pub fn say_name(names: &[u8], row: usize) {
-    say(name_at(names, row));
+// A text that fits no buffer is written at once.
+fn add(out: &mut [u8], n: usize, text: &[u8]) -> usize
+    ensures { λ r. ⌜ r ≤ length (now (out .exit)) ⌝ }
+{
+    if out.len() <= n {
+        return out.len();
+    }
+    if text.len() < out.len() - n {
+        copy(out, n, text);
+        return n + text.len();
+    }
+    send(1, text, out.len())
 }
 
-// The kinds' names, by their numbers: document 01's.
-pub fn say_kind(kind: usize) {
+pub fn say(out: &mut [u8], n: usize, text: &[u8]) -> usize
+    ensures { λ r. ⌜ r ≤ length (now (out .exit)) ⌝ }
+{
+    let n = make_room(out, n, text.len());
+    add(out, n, text)
+}
+
+// A command's exit status once what waits is written: 4 where that or an earlier write failed, whose errno still stands.
+pub fn sent(command: &[u8], out: &[u8], n: usize, status: u8) -> u8 {
+    if flush(1, out, n) == 0 {
+        return status;
+    }
+    io::write_all(2, command);
+    os::fail(b": cannot write");
+    4
+}
+
+pub fn say_number(out: &mut [u8], n: usize, value: u64) -> usize
+    ensures { λ r. ⌜ r ≤ length (now (out .exit)) ⌝ }
+{
+    let mut text = [0u8; 20];
+    let k = io::decimal(value, &mut text);
+    say(out, n, &text[..k])
+}
+
+// A number and what is counted, after a space: `1 byte`, `2 bytes`.
+pub fn say_count(out: &mut [u8], n: usize, value: u64, what: &[u8]) -> usize
+    ensures { λ r. ⌜ r ≤ length (now (out .exit)) ⌝ }
+{
+    let n = say_number(out, n, value);
+    let n = say(out, n, what);
+    if value == 1 {
+        return n;
+    }
+    say(out, n, b"s")
+}
+
+// The two spaces of each level of a tree.
+pub fn say_indent(out: &mut [u8], n: usize, depth: usize) -> usize
+    ensures { λ r. ⌜ r ≤ length (now (out .exit)) ⌝ }
+{
+    let mut n = say(out, n, b"");
+    let mut i: usize = 0;
+    while i < depth {
+        n = say(out, n, b"  ");
+        i += 1;
+    }
+    n
+}
+
+// A name of a table.
+pub fn say_name(out: &mut [u8], n: usize, names: &[u8], row: usize) -> usize
+    ensures { λ r. ⌜ r ≤ length (now (out .exit)) ⌝ }
+{
+    say(out, n, name_at(names, row))
+}
+
+// The kinds' names, by their numbers: those of docs/RULES.md.
+pub fn say_kind(out: &mut [u8], n: usize, kind: usize) -> usize
+    ensures { λ r. ⌜ r ≤ length (now (out .exit)) ⌝ }
+{
     say_name(
+        out,
+        n,
         b"no such kind........\
           number..............\
           range...............\
@@ -297,12 +377,16 @@ pub fn say_kind(kind: usize) {
           VANISHED (EARLIER)..\
           METADATA............",
         kind,
-    );
+    )
 }
 
 // The known encodings, by word a of their nodes.
-pub fn say_encoding(which: usize) {
+pub fn say_encoding(out: &mut [u8], n: usize, which: usize) -> usize
+    ensures { λ r. ⌜ r ≤ length (now (out .exit)) ⌝ }
+{
     say_name(
+        out,
+        n,
         b"unknown.............\
           7BIT................\
           8BIT................\
@@ -310,7 +394,7 @@ pub fn say_encoding(which: usize) {
           BASE64..............\
           QUOTED-PRINTABLE....",
         which,
-    );
+    )
 }
 
 // ----- bytes made printable -----
@@ -323,19 +407,25 @@ fn is_plain(b: u8) -> bool {
     b != b'"' && b != b'\\'
 }
 
-fn say_hex(b: u8) {
-    say(b"\\x");
-    io::print_hex(1, b as u64, 2);
+fn say_hex(out: &mut [u8], n: usize, b: u8) -> usize
+    ensures { λ r. ⌜ r ≤ length (now (out .exit)) ⌝ }
+{
+    let n = say(out, n, b"\\x");
+    let mut text = [0u8; 16];
+    let k = io::hex(b as u64, 2, &mut text);
+    say(out, n, &text[..k])
 }
 
 // Any other byte.
-fn say_escape(b: u8) {
+fn say_escape(out: &mut [u8], n: usize, b: u8) -> usize
+    ensures { λ r. ⌜ r ≤ length (now (out .exit)) ⌝ }
+{
     match b {
-        b'\r' => say(b"\\r"),
-        b'\n' => say(b"\\n"),
-        b'"' => say(b"\\\""),
-        b'\\' => say(b"\\\\"),
-        _ => say_hex(b),
+        b'\r' => say(out, n, b"\\r"),
+        b'\n' => say(out, n, b"\\n"),
+        b'"' => say(out, n, b"\\\""),
+        b'\\' => say(out, n, b"\\\\"),
+        _ => say_hex(out, n, b),
     }
 }
 
@@ -354,107 +444,146 @@ fn plain_end(s: &[u8], at: usize) -> usize
     i
 }
 
-// One write for plain bytes side by side.
-pub fn say_bytes(s: &[u8]) {
+// Plain bytes side by side are copied together.
+pub fn say_bytes(out: &mut [u8], n: usize, s: &[u8]) -> usize
+    ensures { λ r. ⌜ r ≤ length (now (out .exit)) ⌝ }
+{
+    let mut n = say(out, n, b"");
     let mut i: usize = 0;
     while i < s.len() {
         let end = plain_end(s, i);
-        say(&s[i..end]);
+        n = say(out, n, &s[i..end]);
         i = end;
         if i < s.len() {
-            say_escape(s[i]);
+            n = say_escape(out, n, s[i]);
             i += 1;
         }
     }
+    n
 }
 
 // In quotes, all of them.
-pub fn say_quoted(s: &[u8]) {
-    say(b"\"");
-    say_bytes(s);
-    say(b"\"");
+pub fn say_quoted(out: &mut [u8], n: usize, s: &[u8]) -> usize
+    ensures { λ r. ⌜ r ≤ length (now (out .exit)) ⌝ }
+{
+    let n = say(out, n, b"\"");
+    let n = say_bytes(out, n, s);
+    say(out, n, b"\"")
 }
 
 // In quotes, the first 60 where there are more.
-pub fn say_cut(s: &[u8]) {
+pub fn say_cut(out: &mut [u8], n: usize, s: &[u8]) -> usize
+    ensures { λ r. ⌜ r ≤ length (now (out .exit)) ⌝ }
+{
     if s.len() <= 60 {
-        say_quoted(s);
-        return;
+        return say_quoted(out, n, s);
     }
-    say_quoted(&s[..60]);
-    say(b"... (");
-    say_number(s.len() as u64);
-    say(b" bytes)");
+    let n = say_quoted(out, n, &s[..60]);
+    let n = say(out, n, b"... (");
+    let n = say_number(out, n, s.len() as u64);
+    say(out, n, b" bytes)")
+}
+
+// The file's name before its answer.
+pub fn say_heading(out: &mut [u8], n: usize, path: &[u8]) -> usize
+    ensures { λ r. ⌜ r ≤ length (now (out .exit)) ⌝ }
+{
+    let n = say_bytes(out, n, path);
+    say(out, n, b": ")
 }
 
 // ----- answers -----
 
-fn say_accepted(taken: usize, nodes: usize) {
-    say(b"accepted: answer 0, ");
-    say_count(taken as u64, b"byte");
-    say(b" taken, ");
-    say_count(nodes as u64, b"node");
-}
-
-// ` is` of one, ` are` of others.
-fn say_are(n: usize) {
-    if n == 1 {
-        say(b" is");
-    } else {
-        say(b" are");
-    }
-}
-
-fn say_unfinished(wanted: usize) {
-    say(b"unfinished: answer 1, ");
-    if wanted == 0 {
-        say(b"more bytes are needed");
-        return;
-    }
-    say_count(wanted as u64, b"more byte");
-    say_are(wanted);
-    say(b" wanted");
-}
-
-fn say_no_room(nodes: usize, room: usize) {
-    say(b"no room: answer 4, ");
-    say_count(nodes as u64, b"node");
-    say_are(nodes);
-    say(b" needed, this command has room for ");
-    say_number(room as u64);
-}
-
-// The answer of a reading into a table with room for so many nodes, in words and numbers, as document 01 numbers them.
-pub fn say_answer(r: Answer, room: usize) {
+// The exit status of a command for an answer: docs/COMMANDS.md.
+pub fn status_of(r: Answer) -> u8
+    ensures { λ s. ⌜ s ≡ status-of r ⌝ }
+{
     match r {
-        Answer::Accepted { taken, nodes } => say_accepted(taken, nodes),
-        Answer::Unfinished { wanted } => say_unfinished(wanted),
-        Answer::NotTheGrammar => say(b"not the grammar: answer 2"),
-        Answer::TooDeep => say(b"too deep: answer 3"),
-        Answer::NoRoom { nodes } => say_no_room(nodes, room),
-        Answer::UnknownRule => say(b"unknown rule: answer 5"),
-        Answer::TooLong => say(b"too long: answer 6"),
+        Answer::Accepted { taken: _, nodes: _ } => 0,
+        Answer::Unfinished { wanted: _ } => 1,
+        Answer::NotTheGrammar => 2,
+        Answer::TooDeep => 2,
+        Answer::NoRoom { nodes: _ } => 2,
+        Answer::UnknownRule => 3,
+        Answer::TooLong => 2,
+    }
+}
+
+// The status over several files.
+pub fn worse(a: u8, b: u8) -> u8
+    ensures { λ r. ⌜ r ≡ max a b ⌝ }
+{
+    if a < b { b } else { a }
+}
+
+fn say_accepted(out: &mut [u8], n: usize, taken: usize, nodes: usize) -> usize
+    ensures { λ r. ⌜ r ≤ length (now (out .exit)) ⌝ }
+{
+    let n = say(out, n, b"accepted: answer 0, ");
+    let n = say_count(out, n, taken as u64, b" byte");
+    let n = say(out, n, b" taken, ");
+    say_count(out, n, nodes as u64, b" node")
+}
+
+fn say_unfinished(out: &mut [u8], n: usize, wanted: usize) -> usize
+    ensures { λ r. ⌜ r ≤ length (now (out .exit)) ⌝ }
+{
+    if wanted == 0 {
+        return say(out, n, b"unfinished: answer 1, more bytes are needed");
+    }
+    let n = say(out, n, b"unfinished: answer 1, ");
+    let n = say_count(out, n, wanted as u64, b" more byte");
+    say(out, n, b" wanted")
+}
+
+fn say_no_room(out: &mut [u8], n: usize, nodes: usize, room: usize) -> usize
+    ensures { λ r. ⌜ r ≤ length (now (out .exit)) ⌝ }
+{
+    let n = say(out, n, b"no room: answer 4, ");
+    let n = say_count(out, n, nodes as u64, b" node");
+    let n = say(out, n, b" needed, this command has room for ");
+    say_number(out, n, room as u64)
+}
+
+// The answer of a reading into a table with room for so many nodes, in words and as docs/RULES.md numbers it.
+pub fn say_answer(out: &mut [u8], n: usize, r: Answer, room: usize) -> usize
+    ensures { λ r. ⌜ r ≤ length (now (out .exit)) ⌝ }
+{
+    match r {
+        Answer::Accepted { taken, nodes } => say_accepted(out, n, taken, nodes),
+        Answer::Unfinished { wanted } => say_unfinished(out, n, wanted),
+        Answer::NotTheGrammar => say(out, n, b"not the grammar: answer 2"),
+        Answer::TooDeep => say(out, n, b"too deep: answer 3"),
+        Answer::NoRoom { nodes } => say_no_room(out, n, nodes, room),
+        Answer::UnknownRule => say(out, n, b"unknown rule: answer 5"),
+        Answer::TooLong => say(out, n, b"too long: answer 6"),
     }
 }
 
 // ----- files -----
 
-// A line on standard error: the command, what it cannot do, with which file, and errno's text.
-fn complain(command: &[u8], cannot: &[u8], path: &[u8]) {
-    io::write_all(2, command);
-    io::write_all(2, cannot);
-    os::fail(path);
+// A line on standard error, up to its reason. The buffer holds the longest name, 4,095 bytes, with each byte escaped.
+pub fn complain(command: &[u8], what: &[u8], name: &[u8]) {
+    let mut space = io::large_buffer();
+    let out: &mut [u8] = &mut space;
+    let n = say(out, 0, command);
+    let n = say(out, n, what);
+    let n = say_quoted(out, n, name);
+    flush(2, out, n);
+}
+
+// The same line with errno's text behind it.
+fn complain_why(command: &[u8], what: &[u8], name: &[u8]) {
+    complain(command, what, name);
+    os::fail(b"");
 }
 
 fn cannot_read(command: &[u8], path: &[u8]) {
-    complain(command, b": cannot read ", path);
+    complain_why(command, b": cannot read ", path);
 }
 
-// A line on standard error: the file has more bytes than the command reads.
 fn too_long(command: &[u8], path: &[u8]) {
-    io::write_all(2, command);
-    io::write_all(2, b": too long: ");
-    io::write_all(2, path);
+    complain(command, b": too long: ", path);
     io::write_all(
         2,
         b" has more than 1048576 bytes, which is this command's limit\n",
@@ -462,7 +591,7 @@ fn too_long(command: &[u8], path: &[u8]) {
 }
 
 // Reads to the end. A buffer that is full has one byte more than is allowed.
-pub fn load(command: &[u8], path: &[u8], fd: i32, buf: &mut [u8]) -> Loaded
+fn load(command: &[u8], path: &[u8], fd: i32, buf: &mut [u8]) -> Loaded
     ensures { λ r. ⌜ Loads r (length (now (buf .exit))) ⌝ }
 {
     let mut done: usize = 0;
@@ -482,16 +611,33 @@ pub fn load(command: &[u8], path: &[u8], fd: i32, buf: &mut [u8]) -> Loaded
     Loaded::Nothing
 }
 
-// A file by its name.
+// A file by its name, or standard input as `-`.
 pub fn load_file(command: &[u8], path: &[u8], buf: &mut [u8]) -> Loaded
     ensures { λ r. ⌜ Loads r (length (now (buf .exit))) ⌝ }
 {
+    if same_word(path, b"-") {
+        return load(command, path, 0, buf);
+    }
     let fd = os::open_read(path);
     if fd < 0 {
-        complain(command, b": cannot open ", path);
+        complain_why(command, b": cannot open ", path);
         return Loaded::Nothing;
     }
     let loaded = load(command, path, fd, buf);
     libc::close(fd);
     loaded
+}
+
+// ----- the exit status -----
+
+// A program has none of its own, so its last act is to write the digit to descriptor 3, where tools/command.sh waits for it.
+pub fn leave(status: u8) {
+    match status {
+        0 => io::write_all(3, b"0"),
+        1 => io::write_all(3, b"1"),
+        2 => io::write_all(3, b"2"),
+        3 => io::write_all(3, b"3"),
+        _ => io::write_all(3, b"4"),
+    }
+    ;
 }

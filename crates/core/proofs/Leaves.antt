@@ -12,7 +12,7 @@ use lib.Dec.{T, leb, eqb}
 use borrow.Author.Tests.{le-leb, lt-leb, leb-true, leb-false, eq-eqb, ne-eqb}
 use Rattle.grammar.specs.Kinds.{kind-number}
 use Rattle.grammar.specs.Forest.{size}
-use Rattle.grammar.specs.Out.{took, refused, pick}
+use Rattle.grammar.specs.Out.{took, refused, branch}
 use Rattle.grammar.specs.Scan.{digit, in-class, capital, Class, on, end-before, end-after, fail, moved, two-32}
 use Rattle.grammar.specs.Scan.{Scanned, ended, short, failed, scan, tag-move, digits-move, run-move}
 use Rattle.grammar.specs.Scan.{tag, tag-no-case, digits, take-while1, take-while}
@@ -77,7 +77,7 @@ module _ {class : Class} {s : List ℕ} {at i : ℕ} (inv : Running class s at i
 module _ (class : Class) (P : Scanned → Type 0) (stops : P short) where
   -- so of one byte and what comes after it
   run-turn : (t : Bool) (i : ℕ) (next : ℕ → ℕ → Scanned) → P (next 1 0) → P (ended i 0)
-      → P (moved (pick t (λ u. on 1 0) (λ u. pick (eqb 1 0) (λ u. fail) (λ u. end-before 0))) i next)
+      → P (moved (branch t (λ u. on 1 0) (λ u. branch (eqb 1 0) (λ u. fail) (λ u. end-before 0))) i next)
   run-turn true i next go ends = go
   run-turn false i next go ends = ends
 
@@ -109,9 +109,9 @@ run1-later class at bs =
 -- from state 0 a run is the same, but fails where it would end at once: its first byte
 run1-turn : (class : Class) (at : ℕ) (t : Bool) (next : ℕ → ℕ → Scanned)
     → run1-step at (as-run (next 1 0)) ≡ as-step (leaf-found (take-while1 class) at (next 1 0))
-    → run1-step at (as-run (moved (pick t (λ u. on 1 0) (λ u. pick (eqb 1 0) (λ u. fail) (λ u. end-before 0))) at next))
+    → run1-step at (as-run (moved (branch t (λ u. on 1 0) (λ u. branch (eqb 1 0) (λ u. fail) (λ u. end-before 0))) at next))
     ≡ as-step (leaf-found (take-while1 class) at
-    (moved (pick t (λ u. on 1 0) (λ u. pick (eqb 0 0) (λ u. fail) (λ u. end-before 0))) at next))
+    (moved (branch t (λ u. on 1 0) (λ u. branch (eqb 0 0) (λ u. fail) (λ u. end-before 0))) at next))
 run1-turn class at true next go = go
 run1-turn class at false next go = rw (eq-eqb at at refl)
 
@@ -389,8 +389,8 @@ digits-read : (largest at : ℕ) (x : Scanned) → digits-step (as-digits larges
 unfolding leaf-fits leaf-nodes size
 digits-read largest at (ended end value) = fits (leb value largest)
   where
-    fits : (t : Bool) → digits-step (valued-digits end (pick t (λ u. Fits value) (λ u. Large)))
-        ≡ as-step (pick t (λ u. took end (leaf-nodes (digits largest) at end value)) (λ u. refused))
+    fits : (t : Bool) → digits-step (valued-digits end (branch t (λ u. Fits value) (λ u. Large)))
+        ≡ as-step (branch t (λ u. took end (leaf-nodes (digits largest) at end value)) (λ u. refused))
     fits true = refl
     fits false = refl
 digits-read largest at short = refl
@@ -402,8 +402,8 @@ digits-wrote : (largest at : ℕ) (x : Scanned) (t : List ℕ)
 unfolding leaf-fits leaf-nodes
 digits-wrote largest at (ended end value) t = fits (leb value largest)
   where
-    fits : (b : Bool) → digits-table (valued-digits end (pick b (λ u. Fits value) (λ u. Large))) t
-        ≡ lay (pick b (λ u. took end (leaf-nodes (digits largest) at end value)) (λ u. refused)) t
+    fits : (b : Bool) → digits-table (valued-digits end (branch b (λ u. Fits value) (λ u. Large))) t
+        ≡ lay (branch b (λ u. took end (leaf-nodes (digits largest) at end value)) (λ u. refused)) t
     fits true = refl
     fits false = refl
 digits-wrote largest at short t = refl

@@ -5,7 +5,7 @@ use mathlib.Core.List.{List}
 use lib.ListN.{length, drop}
 use lib.Dec.{leb, eqb}
 use Rattle.grammar.specs.Kinds.{kind-number, kind-bytes}
-use Rattle.grammar.specs.Out.{pick}
+use Rattle.grammar.specs.Out.{branch}
 use Rattle.grammar.specs.Scan.{Scanned, ended, short, failed, scan, Class, run-move, digits-move, quotes-move, header-move, two-32, largest-32}
 use Rattle.grammar.specs.Reading.{length-limit}
 use Rattle.table.specs.declared.Step.{Step}
@@ -39,14 +39,14 @@ run0-step (run.End next) = Took next 0
 run0-step run.Short = More 0
 
 abbrev pub run1-step : ℕ → Run → Step
-run1-step at (run.End next) = pick (eqb next at) (λ u. Refused) (λ u. Took next 0)
+run1-step at (run.End next) = branch (eqb next at) (λ u. Refused) (λ u. Took next 0)
 run1-step at run.Short = More 0
 
 -- numbers ----------------------------------------------------------------------------------------------------------------------
 
 -- a value that may be too large
 abbrev pub value-of : ℕ → ℕ → Value
-value-of largest v = pick (leb v largest) (λ u. Fits v) (λ u. Large)
+value-of largest v = branch (leb v largest) (λ u. Fits v) (λ u. Large)
 
 abbrev pub valued-digits : ℕ → Value → Numeral
 valued-digits next (Fits v) = numeral.Value next v

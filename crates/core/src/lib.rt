@@ -6,7 +6,7 @@ ghost use mathlib.Core.Path.{_≡_};
 ghost use mathlib.Core.List.{List, [], _∷_};
 ghost use Prim.Native.Nat.{ℕ, _+_, _*_, _≤_};
 ghost use lib.ListN.{length};
-ghost use Rattle.grammar.specs.Scan.{digit, text-char, quoted-special, list-wildcard, atom-special, astring-char, blank, capital, tag, tag-no-case, take-while1, take-while, astring-chars, text-chars, blanks};
+ghost use Rattle.grammar.specs.Scan.{digit, text-char, quoted-special, list-wildcard, astring-special, astring-char, blank, capital, tag, tag-no-case, take-while1, take-while, astring-chars, text-chars, blanks};
 ghost use Rattle.grammar.specs.Grammar.{G, leaf, literal, does, node};
 ghost use Rattle.grammar.specs.Notation.{space0, space1};
 ghost use Rattle.grammar.specs.Core.{number, number-64, quoted, string, astring, nil, nstring, text};
@@ -49,29 +49,29 @@ pub enum Header {
 
 // ----- bytes -----
 
-pub fn is_digit(c: u8) -> bool
+fn is_digit(c: u8) -> bool
     ensures { λ r. ⌜ r ≡ digit c ⌝ }
 {
     b'0' <= c && c <= b'9'
 }
 
 // quoted-specials = DQUOTE / "\"
-pub fn is_quoted_specials(c: u8) -> bool
+fn is_quoted_specials(c: u8) -> bool
     ensures { λ r. ⌜ r ≡ quoted-special c ⌝ }
 {
     c == b'"' || c == b'\\'
 }
 
 // list-wildcards = "%" / "*"
-pub fn is_list_wildcards(c: u8) -> bool
+fn is_list_wildcards(c: u8) -> bool
     ensures { λ r. ⌜ r ≡ list-wildcard c ⌝ }
 {
     c == b'%' || c == b'*'
 }
 
 // atom-specials but for CTL and resp-specials
-pub fn is_atom_specials(c: u8) -> bool
-    ensures { λ r. ⌜ r ≡ atom-special c ⌝ }
+fn is_atom_specials(c: u8) -> bool
+    ensures { λ r. ⌜ r ≡ astring-special c ⌝ }
 {
     if c == b'(' {
         return true;
@@ -92,7 +92,7 @@ pub fn is_atom_specials(c: u8) -> bool
 }
 
 // ASTRING-CHAR = ATOM-CHAR / resp-specials
-pub fn is_astring_char(c: u8) -> bool
+fn is_astring_char(c: u8) -> bool
     ensures { λ r. ⌜ r ≡ astring-char c ⌝ }
 {
     if c < b' ' {
@@ -102,7 +102,7 @@ pub fn is_astring_char(c: u8) -> bool
 }
 
 // TEXT-CHAR = <any CHAR except CR and LF>; 8-bit bytes count
-pub fn is_text_char(c: u8) -> bool
+fn is_text_char(c: u8) -> bool
     ensures { λ r. ⌜ r ≡ text-char c ⌝ }
 {
     // Nearly every byte: one test, where a match of the three would become a jump by a table.
@@ -119,7 +119,7 @@ pub fn is_text_char(c: u8) -> bool
 }
 
 // A space or a tab.
-pub fn is_space(c: u8) -> bool
+fn is_space(c: u8) -> bool
     ensures { λ r. ⌜ r ≡ blank c ⌝ }
 {
     c == b' ' || c == b'\t'
@@ -184,7 +184,7 @@ pub fn tag_no_case(s: &[u8], at: usize, word: &[u8]) -> Step
 // ----- runs -----
 
 // Where the spaces and tabs from a place on end.
-pub fn space_end(s: &[u8], at: usize) -> Run
+fn space_end(s: &[u8], at: usize) -> Run
     requires { ⌜ Room (now s) at ⌝ }
     ensures { λ r. ⌜ Runs blanks (now (s .entry)) at r ⌝ }
 {
@@ -216,7 +216,7 @@ pub fn astring_end(s: &[u8], at: usize) -> Run
 }
 
 // Where text ends.
-pub fn text_end(s: &[u8], at: usize) -> Run
+fn text_end(s: &[u8], at: usize) -> Run
     requires { ⌜ Room (now s) at ⌝ }
     ensures { λ r. ⌜ Runs text-chars (now (s .entry)) at r ⌝ }
 {
@@ -232,7 +232,7 @@ pub fn text_end(s: &[u8], at: usize) -> Run
 }
 
 // A run that may be empty.
-pub fn run0(run: Run) -> Step
+fn run0(run: Run) -> Step
     ensures { λ r. ⌜ r ≡ run0-step run ⌝ }
 {
     match run {
@@ -242,7 +242,7 @@ pub fn run0(run: Run) -> Step
 }
 
 // A run of one or more, begun at a place.
-pub fn run1(run: Run, at: usize) -> Step
+fn run1(run: Run, at: usize) -> Step
     ensures { λ r. ⌜ r ≡ run1-step at run ⌝ }
 {
     match run {
@@ -275,7 +275,7 @@ pub fn space1(s: &[u8], at: usize) -> Step
 // ----- number -----
 
 // A value with one more digit.
-pub fn with_digit(value: Value, d: u64, largest: u64) -> Value
+fn with_digit(value: Value, d: u64, largest: u64) -> Value
     requires { ⌜ d ≤ largest ⌝ }
     ensures { λ r. ⌜ ((v : ℕ) → value ≡ value-of largest v → r ≡ value-of largest (v * 10 + d)) ⌝ }
 {
@@ -289,7 +289,7 @@ pub fn with_digit(value: Value, d: u64, largest: u64) -> Value
 }
 
 // A value whose digits end.
-pub fn valued(value: Value, next: usize) -> Numeral
+fn valued(value: Value, next: usize) -> Numeral
     ensures { λ r. ⌜ r ≡ valued-digits next value ⌝ }
 {
     match value {
@@ -326,7 +326,7 @@ pub fn digits(s: &[u8], at: usize, largest: u64) -> Numeral
 }
 
 // A number's node.
-pub fn number_node(d: Numeral, t: &mut [u32]) -> Step
+fn number_node(d: Numeral, t: &mut [u32]) -> Step
     ensures { λ r. ⌜ Noded d r (now (t .entry)) (now (t .exit)) ⌝ }
 {
     match d {
@@ -436,7 +436,7 @@ pub fn quoted(s: &[u8], at: usize, t: &mut [u32]) -> Step
 }
 
 // The line end of a literal's header.
-pub fn line_end(s: &[u8], at: usize, count: usize) -> Header
+fn line_end(s: &[u8], at: usize, count: usize) -> Header
     requires { ⌜ Room (now s) at ⌝ }
     requires { ⌜ count ≤ 4294967295 ⌝ }
     ensures { λ r. ⌜ Headers 3 count (now (s .entry)) at r ⌝ }
@@ -518,7 +518,7 @@ pub fn string(s: &[u8], at: usize, t: &mut [u32]) -> Step
 // ----- astring -----
 
 // 1*ASTRING-CHAR
-pub fn astring_chars(s: &[u8], at: usize, t: &mut [u32]) -> Step
+fn astring_chars(s: &[u8], at: usize, t: &mut [u32]) -> Step
     requires { ⌜ Room (now s) at ⌝ }
     ensures { λ r. ⌜ Does 0 (does (node kind-bytes) (leaf (take-while1 astring-chars))) (now (s .entry)) at r (now (t .entry)) (now (t .exit)) ⌝ }
 {

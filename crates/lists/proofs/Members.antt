@@ -10,10 +10,10 @@ use lib.Dec.{leb}
 use borrow.Author.Tests.{leb-true}
 use Rattle.grammar.specs.Kinds.{kind-number, kind-range}
 use Rattle.grammar.specs.Forest.{Forest, none, tree, node-of, size, beside}
-use Rattle.grammar.specs.Out.{Out, took, more, refused, deep, pick, then, orElse, with-before}
+use Rattle.grammar.specs.Out.{Out, took, more, refused, deep, branch, followed-by, orElse, with-before}
 use Rattle.grammar.specs.Scan.{Scanned, ended, short, failed, scan, digits, digits-move, leaf-move, first-state, leaf-fits, leaf-nodes, leaf-found, leaf-at, two-32, largest-32, tag}
 use Rattle.grammar.specs.Grammar.{G, leaf, seq, alt, does, range, Act, act, run}
-use Rattle.grammar.specs.Notation.{_⋯_, _∣_, exact}
+use Rattle.grammar.specs.Notation.{_⋯_, _or_, exact}
 use Rattle.grammar.specs.Core.{number, number-pair, sequence-member}
 use Rattle.table.specs.declared.Step.{Step}
 use Rattle.table.specs.declared.Step.the-variants.{Took, More, Refused}
@@ -42,7 +42,7 @@ unfolding leaf-fits leaf-nodes
 digits-found largest at (ended e v) = go (leb v largest)
   where
     go : (b : Bool)
-        → pick b (λ u. took e (node-of kind-number (v % two-32) (v / two-32))) (λ u. refused) ≡ digits-out (valued-digits e (pick b (λ u. Fits v) (λ u. Large)))
+        → branch b (λ u. took e (node-of kind-number (v % two-32) (v / two-32))) (λ u. refused) ≡ digits-out (valued-digits e (branch b (λ u. Fits v) (λ u. Large)))
     go true = refl
     go false = refl
 digits-found largest at short = refl
@@ -56,7 +56,7 @@ number-found {s} {at} c = digits-found largest-32 at (scan digits-move 0 0 (drop
 pub counted-fits : {largest : ℕ} {s : List ℕ} {at : ℕ} {d : Numeral} {e v : ℕ} → Counts largest s at d → d ≡ numeral.Value e v → v ≤ largest
 counted-fits {largest} {s} {at} {d} {e} {v} c p = go (scan digits-move 0 0 (drop at s) at) (sym p ∙ c .is)
   where
-    value : (b : Bool) (e′ v′ : ℕ) → leb v′ largest ≡ b → numeral.Value e v ≡ valued-digits e′ (pick b (λ u. Fits v′) (λ u. Large)) → v ≤ largest
+    value : (b : Bool) (e′ v′ : ℕ) → leb v′ largest ≡ b → numeral.Value e v ≡ valued-digits e′ (branch b (λ u. Fits v′) (λ u. Large)) → v ≤ largest
     value true e′ v′ l q = let m = leb-true v′ largest l in let z : v ≡ v′ = cc in omega arith
     value false e′ v′ l q = let z : _≡_ {A = ℕ} 0 1 = cc in absurd (omega arith)
 
@@ -136,15 +136,15 @@ module _ {s : List ℕ} {at : ℕ} {d : Numeral} (counts : Counts largest-32 s a
 
 -- what is found of a member, once its numbers are known
 abbrev member-out : Act → ℕ → Member → Out
-member-out a at r = then (numbers-out r) (λ end f. took end (act a at end f))
+member-out a at r = followed-by (numbers-out r) (λ end f. took end (act a at end f))
 
 pub member-is : {a : Act} {s : List ℕ} {at : ℕ} {n : Member} {r : Step} {t t′ : List ℕ} → Numbered s at n
-    → ((o : Out) (below : List ℕ → List ℕ) → act-table a at o below t ≡ lay (then o (λ end f. took end (act a at end f))) t)
-    → r ≡ as-step (member-out a at n) → t′ ≡ lay (member-out a at n) t → Does 0 (does a (number-pair ∣ number)) s at r t t′
+    → ((o : Out) (below : List ℕ → List ℕ) → act-table a at o below t ≡ lay (followed-by o (λ end f. took end (act a at end f))) t)
+    → r ≡ as-step (member-out a at n) → t′ ≡ lay (member-out a at n) t → Does 0 (does a (number-pair or number)) s at r t t′
 unfolding run fill-with
 member-is {a} {s} {at} {n} {t = t} w lays p q = record {
-  read = p ∙ ap (λ o. as-step (then o (λ end f. took end (act a at end f)))) (sym (w .found));
-  wrote = q ∙ ap (λ o. lay (then o (λ end f. took end (act a at end f))) t) (sym (w .found)) ∙ sym (lays (find 0 (number-pair ∣ number) s at) _);
+  read = p ∙ ap (λ o. as-step (followed-by o (λ end f. took end (act a at end f)))) (sym (w .found));
+  wrote = q ∙ ap (λ o. lay (followed-by o (λ end f. took end (act a at end f))) t) (sym (w .found)) ∙ sym (lays (find 0 (number-pair or number) s at) _);
 }
 
 range-is : {s : List ℕ} {at : ℕ} {n : Member} {r : Step} {t t′ : List ℕ} → Numbered s at n

@@ -5,8 +5,8 @@ use mathlib.Core.List.{List}
 use lib.ListN.{length}
 use Rattle.grammar.specs.Kinds.{kind-number}
 use Rattle.grammar.specs.Forest.{Forest, none, tree, node-of}
-use Rattle.grammar.specs.Out.{Out, took, more, refused, then, orElse, with-before}
-use Rattle.grammar.specs.Notation.{_⋯_, _∣_, exact}
+use Rattle.grammar.specs.Out.{Out, took, more, refused, followed-by, orElse, with-before}
+use Rattle.grammar.specs.Notation.{_⋯_, _or_, exact}
 use Rattle.grammar.specs.Core.{number, number-pair}
 use Rattle.table.specs.Fill.{find}
 use Rattle.lists.specs.declared.Member.{Member}
@@ -20,12 +20,12 @@ numbers-out Short = more 0
 numbers-out Wrong = refused
 
 pub record Numbered (s : List ℕ) (at : ℕ) (r : Member) : Type 0 where
-  pub found : find 0 (number-pair ∣ number) s at ≡ numbers-out r
+  pub found : find 0 (number-pair or number) s at ≡ numbers-out r
 
 -- the same once the first number is found, up to `at`
 pub record Second (s : List ℕ) (at first : ℕ) (r : Member) : Type 0 where
   pub found :
       orElse
-      (then (with-before (node-of kind-number first 0) (find 0 (exact ":") s at)) (λ end f. with-before f (find 0 number s end)))
+      (followed-by (with-before (node-of kind-number first 0) (find 0 (exact ":") s at)) (λ end f. with-before f (find 0 number s end)))
       (λ u. took at (node-of kind-number first 0))
       ≡ numbers-out r

@@ -70,7 +70,7 @@ pub fn then_space1(s: &[u8], r: Step) -> Step
 }
 
 // At most one space.
-pub fn opt_space(s: &[u8], at: usize) -> Step
+fn opt_space(s: &[u8], at: usize) -> Step
     requires { ⌜ Room (now s) at ⌝ }
     ensures { λ r. ⌜ Skims (skip-opt sp) (now (s .entry)) at r ⌝ }
 {
@@ -154,7 +154,7 @@ pub fn then_nstring(s: &[u8], r: Step, t: &mut [u32]) -> Step
     table::add_nodes(nodes, q)
 }
 
-pub fn then_astring(s: &[u8], r: Step, t: &mut [u32]) -> Step
+fn then_astring(s: &[u8], r: Step, t: &mut [u32]) -> Step
     requires { ⌜ RoomAfter (now s) r ⌝ }
     ensures { λ q. ⌜ Goes 0 astring (now (s .entry)) r q (now (t .entry)) (now (t .exit)) ⌝ }
 {
@@ -169,7 +169,7 @@ pub fn then_astring(s: &[u8], r: Step, t: &mut [u32]) -> Step
 // ----- sets -----
 
 // A colon and a second number, behind the first one.
-pub fn second_number(s: &[u8], at: usize, first: u32) -> Member
+fn second_number(s: &[u8], at: usize, first: u32) -> Member
     requires { ⌜ Room (now s) at ⌝ }
     ensures { λ r. ⌜ Second (now (s .entry)) at first r ⌝ }
 {
@@ -205,7 +205,7 @@ pub fn numbers(s: &[u8], at: usize) -> Member
 }
 
 // seq-number / seq-range: a range, kept as written
-pub fn sequence_member(s: &[u8], at: usize, t: &mut [u32]) -> Step
+fn sequence_member(s: &[u8], at: usize, t: &mut [u32]) -> Step
     requires { ⌜ Room (now s) at ⌝ }
     ensures { λ r. ⌜ Does 0 sequence-member (now (s .entry)) at r (now (t .entry)) (now (t .exit)) ⌝ }
 {
@@ -224,7 +224,7 @@ pub fn sequence_member(s: &[u8], at: usize, t: &mut [u32]) -> Step
     }
 }
 
-pub fn then_sequence_member(s: &[u8], r: Step, t: &mut [u32]) -> Step
+fn then_sequence_member(s: &[u8], r: Step, t: &mut [u32]) -> Step
     requires { ⌜ RoomAfter (now s) r ⌝ }
     ensures { λ q. ⌜ Goes 0 sequence-member (now (s .entry)) r q (now (t .entry)) (now (t .exit)) ⌝ }
 {
@@ -237,7 +237,7 @@ pub fn then_sequence_member(s: &[u8], r: Step, t: &mut [u32]) -> Step
 }
 
 // "," sequence-member
-pub fn comma_member(s: &[u8], at: usize, t: &mut [u32]) -> Step
+fn comma_member(s: &[u8], at: usize, t: &mut [u32]) -> Step
     requires { ⌜ Room (now s) at ⌝ }
     ensures { λ r. ⌜ Does 0 (exact "," ⋯ sequence-member) (now (s .entry)) at r (now (t .entry)) (now (t .exit)) ⌝ }
 {
@@ -293,7 +293,7 @@ pub fn then_sequence_set(s: &[u8], r: Step, t: &mut [u32]) -> Step
 // ----- lists -----
 
 // SP astring
-pub fn sp_astring(s: &[u8], at: usize, t: &mut [u32]) -> Step
+fn sp_astring(s: &[u8], at: usize, t: &mut [u32]) -> Step
     requires { ⌜ Room (now s) at ⌝ }
     ensures { λ r. ⌜ Does 0 (sp ⋯ astring) (now (s .entry)) at r (now (t .entry)) (now (t .exit)) ⌝ }
 {
@@ -302,7 +302,7 @@ pub fn sp_astring(s: &[u8], at: usize, t: &mut [u32]) -> Step
 }
 
 // astring *(SP astring)
-pub fn astrings(s: &[u8], at: usize, t: &mut [u32]) -> Step
+fn astrings(s: &[u8], at: usize, t: &mut [u32]) -> Step
     requires { ⌜ Room (now s) at ⌝ }
     ensures { λ r. ⌜ Does 0 (separated-list1 sp astring) (now (s .entry)) at r (now (t .entry)) (now (t .exit)) ⌝ }
 {
@@ -335,7 +335,7 @@ pub fn astrings(s: &[u8], at: usize, t: &mut [u32]) -> Step
 }
 
 // [astring *(SP astring)]
-pub fn opt_astrings(s: &[u8], at: usize, t: &mut [u32]) -> Step
+fn opt_astrings(s: &[u8], at: usize, t: &mut [u32]) -> Step
     requires { ⌜ Room (now s) at ⌝ }
     ensures { λ r. ⌜ Does 0 (separated-list0 sp astring) (now (s .entry)) at r (now (t .entry)) (now (t .exit)) ⌝ }
 {
@@ -346,7 +346,7 @@ pub fn opt_astrings(s: &[u8], at: usize, t: &mut [u32]) -> Step
     table::mark(t, at, grammar::KIND_LIST, 0)
 }
 
-pub fn then_opt_astrings(s: &[u8], r: Step, t: &mut [u32]) -> Step
+fn then_opt_astrings(s: &[u8], r: Step, t: &mut [u32]) -> Step
     requires { ⌜ RoomAfter (now s) r ⌝ }
     ensures { λ q. ⌜ Goes 0 (separated-list0 sp astring) (now (s .entry)) r q (now (t .entry)) (now (t .exit)) ⌝ }
 {
@@ -370,7 +370,7 @@ pub fn parenthesized_astrings(s: &[u8], at: usize, t: &mut [u32]) -> Step
 }
 
 // SP string
-pub fn sp_string(s: &[u8], at: usize, t: &mut [u32]) -> Step
+fn sp_string(s: &[u8], at: usize, t: &mut [u32]) -> Step
     requires { ⌜ Room (now s) at ⌝ }
     ensures { λ r. ⌜ Does 0 (sp ⋯ string) (now (s .entry)) at r (now (t .entry)) (now (t .exit)) ⌝ }
 {
@@ -379,7 +379,7 @@ pub fn sp_string(s: &[u8], at: usize, t: &mut [u32]) -> Step
 }
 
 // string *(SP string)
-pub fn strings(s: &[u8], at: usize, t: &mut [u32]) -> Step
+fn strings(s: &[u8], at: usize, t: &mut [u32]) -> Step
     requires { ⌜ Room (now s) at ⌝ }
     ensures { λ r. ⌜ Does 0 (separated-list1 sp string) (now (s .entry)) at r (now (t .entry)) (now (t .exit)) ⌝ }
 {
@@ -411,7 +411,7 @@ pub fn strings(s: &[u8], at: usize, t: &mut [u32]) -> Step
     }
 }
 
-pub fn then_strings(s: &[u8], r: Step, t: &mut [u32]) -> Step
+fn then_strings(s: &[u8], r: Step, t: &mut [u32]) -> Step
     requires { ⌜ RoomAfter (now s) r ⌝ }
     ensures { λ q. ⌜ Goes 0 (separated-list1 sp string) (now (s .entry)) r q (now (t .entry)) (now (t .exit)) ⌝ }
 {

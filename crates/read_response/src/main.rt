@@ -1,4 +1,4 @@
-//! Reads a response item from a file or from standard input by a rule, and shows the answer and the nodes as a tree.
+//! Reads pieces of responses, each by a rule and from a file or standard input, and shows the answers and the nodes as trees.
 //! docs/COMMANDS.md says how it is used; the script `read` at the repository's root runs it.
 
 use command_line::DEEPEST;
@@ -6,71 +6,12 @@ use command_line::Loaded;
 use command_line::Rule;
 use command_line::say;
 use command_line::say_count;
-use command_line::say_indent;
-use command_line::say_name;
 use command_line::say_number;
 use reader::Answer;
 use walker::Node;
 ghost use Prim.Native.Nat.{_≤_};
 ghost use lib.ListN.{length};
 ghost use Rattle.command_line.specs.Words.{Loads};
-
-// ----- what it says of itself -----
-
-fn say_usage() {
-    say(
-        b"read: shows what a piece of an IMAP server's response holds.\n\
-          usage: read RULE [FILE]\n\
-          FILE, or standard input, is read from its first byte on by RULE, a number or a name.\n\
-          At most 1048576 bytes are read, into a table of 196608 nodes: this command's limits.\n\
-          The reader's own limit is 16777216 bytes.\n\
-          The answer is printed and, where it is 0, each node: its field, kind, and places\n\
-          [start..end) in FILE or value.\n\
-          rules:\n",
-    );
-}
-
-// Behind a name what it reads, where the name does not say it.
-fn say_rules() {
-    say(
-        b"   1 NUMBER           of 32 bits\n\
-          \x20  2 NUMBER64         of 64 bits\n\
-          \x20  3 QUOTED\n\
-          \x20  4 LITERAL\n\
-          \x20  5 STRING           quoted or literal\n\
-          \x20  6 ASTRING          atom or string\n\
-          \x20  7 NSTRING          string or NIL\n\
-          \x20  8 TEXT             up to a line end\n\
-          \x20  9 SEQUENCE-SET\n\
-          \x20 10 UID-SET\n\
-          \x20 11 SECTION          [1.MIME]\n\
-          \x20 12 ENTRY-NAME\n\
-          \x20 13 ENVELOPE-FIELDS  (..) alone\n",
-    );
-}
-
-fn say_more_rules() {
-    say(
-        b"  14 BODY             (..) alone\n\
-          \x20 15 APPENDUID\n\
-          \x20 16 COPYUID\n\
-          \x20 17 UIDNOTSTICKY\n\
-          \x20 18 VANISHED\n\
-          \x20 19 HIGHESTMODSEQ\n\
-          \x20 20 MODSEQ\n\
-          \x20 21 BODY-SECTION     BODY[1] ..\n\
-          \x20 22 METADATA-VALUES\n\
-          \x20 23 METADATA-NAMES\n\
-          \x20 24 ENVELOPE         ENVELOPE (..)\n\
-          \x20 25 BODYSTRUCTURE    BODYSTRUCTURE (..)\n",
-    );
-}
-
-fn explain() {
-    say_usage();
-    say_rules();
-    say_more_rules();
-}
 
 // ----- the fields of a structure -----
 
@@ -107,8 +48,12 @@ fn later_first_field(kind: usize) -> usize
 }
 
 // RFC 3501's names for the fields of each kind in turn, and for RFC 4315's, 7162's and 5464's data.
-fn say_field(row: usize) {
-    say_name(
+fn say_field(out: &mut [u8], n: usize, row: usize) -> usize
+    ensures { λ r. ⌜ r ≤ length (now (out .exit)) ⌝ }
+{
+    command_line::say_name(
+        out,
+        n,
         b"....................\
           date................subject.............from................sender..............reply-to............\
           to..................cc..................bcc.................in-reply-to.........message-id..........\
@@ -133,88 +78,113 @@ fn say_field(row: usize) {
           uids................\
           mailbox.............entries.............",
         row,
-    );
+    )
 }
 
 // The field that is so many places behind the first of its parent's kind.
-fn say_field_of(kind: usize, place: usize) {
+fn say_field_of(out: &mut [u8], n: usize, kind: usize, place: usize) -> usize
+    ensures { λ r. ⌜ r ≤ length (now (out .exit)) ⌝ }
+{
     let first = first_field(kind);
     if first == 0 {
-        return;
+        return say(out, n, b"");
     }
     if 12 < place {
-        return;
+        return say(out, n, b"");
     }
-    say_field(first + place);
-    say(b": ");
+    let n = say_field(out, n, first + place);
+    say(out, n, b": ")
 }
 
 // ----- a node -----
 
+fn say_two(out: &mut [u8], n: usize, a: u32, b: u32) -> usize
+    ensures { λ r. ⌜ r ≤ length (now (out .exit)) ⌝ }
+{
+    let n = say_number(out, n, a as u64);
+    let n = say(out, n, b"..");
+    say_number(out, n, b as u64)
+}
+
 // [start..end)
-fn say_places(a: u32, b: u32) {
-    say(b" [");
-    say_number(a as u64);
-    say(b"..");
-    say_number(b as u64);
-    say(b")");
+fn say_places(out: &mut [u8], n: usize, a: u32, b: u32) -> usize
+    ensures { λ r. ⌜ r ≤ length (now (out .exit)) ⌝ }
+{
+    let n = say(out, n, b" [");
+    let n = say_two(out, n, a, b);
+    say(out, n, b")")
 }
 
 // The number of a low and a high word.
-fn say_value(low: u32, high: u32) {
-    say(b" ");
-    say_number(high as u64 * 4294967296 + low as u64);
+fn say_value(out: &mut [u8], n: usize, low: u32, high: u32) -> usize
+    ensures { λ r. ⌜ r ≤ length (now (out .exit)) ⌝ }
+{
+    let n = say(out, n, b" ");
+    say_number(out, n, high as u64 * 4294967296 + low as u64)
 }
 
-fn say_range(a: u32, b: u32) {
-    say(b" ");
-    say_number(a as u64);
-    say(b"..");
-    say_number(b as u64);
+fn say_range(out: &mut [u8], n: usize, a: u32, b: u32) -> usize
+    ensures { λ r. ⌜ r ≤ length (now (out .exit)) ⌝ }
+{
+    let n = say(out, n, b" ");
+    say_two(out, n, a, b)
 }
 
-fn say_section_text(which: u32) {
+fn say_section_text(out: &mut [u8], n: usize, which: u32) -> usize
+    ensures { λ r. ⌜ r ≤ length (now (out .exit)) ⌝ }
+{
     match which {
-        1 => say(b" HEADER"),
-        2 => say(b" MIME"),
-        3 => say(b" TEXT"),
-        _ => {}
+        1 => say(out, n, b" HEADER"),
+        2 => say(out, n, b" MIME"),
+        3 => say(out, n, b" TEXT"),
+        _ => say(out, n, b" unknown"),
     }
 }
 
-fn say_which_encoding(which: u32) {
-    say(b" ");
-    command_line::say_encoding(which as usize);
+fn say_which_encoding(out: &mut [u8], n: usize, which: u32) -> usize
+    ensures { λ r. ⌜ r ≤ length (now (out .exit)) ⌝ }
+{
+    let n = say(out, n, b" ");
+    command_line::say_encoding(out, n, which as usize)
 }
 
-fn say_children(count: u32) {
-    say(b" of ");
-    say_number(count as u64);
+fn say_children(out: &mut [u8], n: usize, count: u32) -> usize
+    ensures { λ r. ⌜ r ≤ length (now (out .exit)) ⌝ }
+{
+    let n = say(out, n, b" of ");
+    say_number(out, n, count as u64)
 }
 
 // What words a and b mean for a kind.
-fn say_words(kind: u32, a: u32, b: u32) {
+fn say_words(out: &mut [u8], n: usize, kind: u32, a: u32, b: u32) -> usize
+    ensures { λ r. ⌜ r ≤ length (now (out .exit)) ⌝ }
+{
     match kind {
-        1 => say_value(a, b),
-        2 => say_range(a, b),
-        3 => say_value(a, 0),
-        6 => {}
-        7 => say_children(a),
-        8 => say_section_text(a),
-        9 => say_which_encoding(a),
-        _ => say_places(a, b),
+        1 => say_value(out, n, a, b),
+        2 => say_range(out, n, a, b),
+        3 => say_value(out, n, a, 0),
+        6 => say(out, n, b""),
+        7 => say_children(out, n, a),
+        8 => say_section_text(out, n, a),
+        9 => say_which_encoding(out, n, a),
+        _ => say_places(out, n, a, b),
     }
 }
 
 // The bytes that a node names, where it names any.
-fn say_bytes_of(s: &[u8], t: &[u32], at: usize) {
-    if views::view_answer(s, t, at) == 0 {
-        say(b" ");
-        command_line::say_cut(views::view(s, t, at));
+fn say_bytes_of(out: &mut [u8], n: usize, s: &[u8], t: &[u32], at: usize) -> usize
+    ensures { λ r. ⌜ r ≤ length (now (out .exit)) ⌝ }
+{
+    if views::view_answer(s, t, at) != 0 {
+        return say(out, n, b"");
     }
+    let n = say(out, n, b" ");
+    command_line::say_cut(out, n, views::view(s, t, at))
 }
 
-fn say_node(s: &[u8], t: &[u32], at: usize) {
+fn say_node(out: &mut [u8], n: usize, s: &[u8], t: &[u32], at: usize) -> usize
+    ensures { λ r. ⌜ r ≤ length (now (out .exit)) ⌝ }
+{
     let Node::Words {
         kind,
         a,
@@ -222,12 +192,12 @@ fn say_node(s: &[u8], t: &[u32], at: usize) {
         nodes: _,
     } = walker::look(t, at)
     else {
-        return;
+        return say(out, n, b"");
     };
-    command_line::say_kind(kind as usize);
-    say_words(kind, a, b);
-    say_bytes_of(s, t, at);
-    say(b"\n");
+    let n = command_line::say_kind(out, n, kind as usize);
+    let n = say_words(out, n, kind, a, b);
+    let n = say_bytes_of(out, n, s, t, at);
+    say(out, n, b"\n")
 }
 
 // ----- the tree -----
@@ -240,127 +210,239 @@ fn parent(kinds: &mut [usize; DEEPEST], seen: &mut [usize; DEEPEST], depth: usiz
     }
 }
 
-// The field that a node at this depth is of its parent; one more child has been seen.
-fn say_field_at(kinds: &[usize; DEEPEST], seen: &mut [usize; DEEPEST], depth: usize) {
+// The number of a child at this depth among its parent's; one more has been seen.
+fn child_seen(seen: &mut [usize; DEEPEST], depth: usize) -> usize {
     if depth == 0 {
-        return;
+        return 0;
     }
     let above = depth - 1;
     if DEEPEST <= above {
-        return;
+        return 0;
     }
     let place = seen[above];
-    say_field_of(kinds[above], place);
     if place < 1000 {
         seen[above] = place + 1;
     }
+    place
 }
 
-fn say_tree(s: &[u8], t: &[u32], nodes: usize) {
+// The kind of the parent of a node at this depth; 0, which is none, at the top.
+fn parent_kind(kinds: &[usize; DEEPEST], depth: usize) -> usize {
+    if depth == 0 {
+        return 0;
+    }
+    let above = depth - 1;
+    if DEEPEST <= above {
+        return 0;
+    }
+    kinds[above]
+}
+
+// A node's line: the field that it is of its parent, and the node.
+fn say_line(
+    out: &mut [u8],
+    n: usize,
+    depth: usize,
+    kind: usize,
+    place: usize,
+    s: &[u8],
+    t: &[u32],
+    at: usize,
+) -> usize
+    ensures { λ r. ⌜ r ≤ length (now (out .exit)) ⌝ }
+{
+    let n = command_line::say_indent(out, n, depth);
+    let n = say_field_of(out, n, kind, place);
+    say_node(out, n, s, t, at)
+}
+
+// The depth of the next node, if this one has children.
+fn enter(
+    t: &[u32],
+    at: usize,
+    depth: usize,
+    ends: &mut [usize; DEEPEST],
+    kinds: &mut [usize; DEEPEST],
+    seen: &mut [usize; DEEPEST],
+) -> usize {
+    parent(kinds, seen, depth, walker::kind_at(t, at) as usize);
+    command_line::opened(ends, depth, command_line::subtree_end(t, at))
+}
+
+fn say_tree(out: &mut [u8], n: usize, s: &[u8], t: &[u32], nodes: usize) -> usize
+    ensures { λ r. ⌜ r ≤ length (now (out .exit)) ⌝ }
+{
     let mut ends = [0usize; DEEPEST];
     let mut kinds = [0usize; DEEPEST];
     let mut seen = [0usize; DEEPEST];
     let mut depth: usize = 0;
+    let mut n = say(out, n, b"");
     let mut at: usize = 0;
     while at < nodes {
         depth = command_line::open_at(&ends, depth, at);
-        say_indent(depth);
-        say_field_at(&kinds, &mut seen, depth);
-        say_node(s, t, at);
-        parent(
-            &mut kinds,
-            &mut seen,
-            depth,
-            walker::kind_at(t, at) as usize,
-        );
-        depth = command_line::opened(&mut ends, depth, command_line::subtree_end(t, at));
+        let kind = parent_kind(&kinds, depth);
+        let place = child_seen(&mut seen, depth);
+        n = say_line(out, n, depth, kind, place, s, t, at);
+        depth = enter(t, at, depth, &mut ends, &mut kinds, &mut seen);
         at += 1;
     }
+    n
 }
 
 // ----- a reading -----
 
-fn say_rest(s: &[u8], taken: usize) {
-    if taken < s.len() {
-        say_count((s.len() - taken) as u64, b"byte");
-        say(b" after that\n");
+fn say_rest(out: &mut [u8], n: usize, s: &[u8], taken: usize) -> usize
+    ensures { λ r. ⌜ r ≤ length (now (out .exit)) ⌝ }
+{
+    if s.len() <= taken {
+        return say(out, n, b"");
     }
+    let n = say_count(out, n, (s.len() - taken) as u64, b" byte");
+    say(out, n, b" after that\n")
 }
 
-fn show(number: u32, s: &[u8], t: &mut [u32]) {
+fn say_nodes(out: &mut [u8], n: usize, r: Answer, s: &[u8], t: &[u32]) -> usize
+    ensures { λ r. ⌜ r ≤ length (now (out .exit)) ⌝ }
+{
+    let Answer::Accepted { taken, nodes } = r else {
+        return say(out, n, b"");
+    };
+    let n = say_rest(out, n, s, taken);
+    say_tree(out, n, s, t, nodes)
+}
+
+// The file's name before the answer, where several are read.
+fn say_heading(out: &mut [u8], n: usize, several: bool, path: &[u8]) -> usize
+    ensures { λ r. ⌜ r ≤ length (now (out .exit)) ⌝ }
+{
+    if !several {
+        return say(out, n, b"");
+    }
+    command_line::say_heading(out, n, path)
+}
+
+// The exit status is returned, here and below.
+fn show(number: u32, several: bool, path: &[u8], s: &[u8], t: &mut [u32]) -> u8 {
     let r = reader::read(number, s, t);
-    command_line::say_answer(r, t.len() / 4);
-    say(b"\n");
-    if let Answer::Accepted { taken, nodes } = r {
-        say_rest(s, taken);
-        say_tree(s, t, nodes);
-    }
+    let mut space = io::large_buffer();
+    let out: &mut [u8] = &mut space;
+    let n = say_heading(out, 0, several, path);
+    let n = command_line::say_answer(out, n, r, t.len() / 4);
+    let n = say(out, n, b"\n");
+    let n = say_nodes(out, n, r, s, t);
+    command_line::sent(b"read", out, n, command_line::status_of(r))
 }
 
-fn show_loaded(number: u32, loaded: Loaded, buf: &[u8], t: &mut [u32])
+fn show_loaded(
+    number: u32,
+    several: bool,
+    path: &[u8],
+    loaded: Loaded,
+    buf: &[u8],
+    t: &mut [u32],
+) -> u8
     requires { ⌜ Loads loaded (length (now buf)) ⌝ }
 {
     if let Loaded::Bytes(n) = loaded {
-        show(number, &buf[..n], t);
+        return show(number, several, path, &buf[..n], t);
     }
+    3
 }
 
-fn read_input(number: u32, buf: &mut [u8], t: &mut [u32]) {
-    let loaded = command_line::load(b"read", b"standard input", 0, buf);
-    show_loaded(number, loaded, buf, t);
-}
-
-fn read_file(number: u32, buf: &mut [u8], t: &mut [u32]) {
-    let mut path = io::buffer();
-    let n = os::arg(2, &mut path);
-    if os::errno() != 0 {
-        os::fail(b"read: cannot open FILE");
-        return;
-    }
-    let loaded = command_line::load_file(b"read", &path[..n], buf);
-    show_loaded(number, loaded, buf, t);
+fn read_file(number: u32, several: bool, path: &[u8], buf: &mut [u8], t: &mut [u32]) -> u8 {
+    let loaded = command_line::load_file(b"read", path, buf);
+    show_loaded(number, several, path, loaded, buf, t)
 }
 
 // ----- what is asked -----
 
-fn say_unknown(word: &[u8]) {
-    say(b"read: unknown rule ");
-    command_line::say_quoted(word);
-    say(b": a rule is a number from 1 to 25 or a name; read without arguments lists them\n");
+// 0 where there is no such rule.
+fn known(rule: Rule) -> u32 {
+    let Rule::Number(number) = rule else {
+        return 0;
+    };
+    if 25 < number {
+        return 0;
+    }
+    number
 }
 
-fn read_by(number: u32, buf: &mut [u8], t: &mut [u32]) {
-    if number < 1 || 25 < number {
-        show(number, &buf[..0], t);
-        return;
-    }
-    if os::arg_count() == 2 {
-        read_input(number, buf, t);
-        return;
-    }
-    read_file(number, buf, t);
+fn unknown(word: &[u8]) {
+    command_line::complain(b"read", b": unknown rule ", word);
+    io::write_all(2, b"; read --help lists the rules\n");
 }
 
-fn read_asked(buf: &mut [u8], t: &mut [u32]) {
+// The rule that an argument asks for; where there is none a line on standard error says so.
+fn rule_at(i: usize) -> u32 {
     let mut word = io::buffer();
-    let n = os::arg(1, &mut word);
-    match command_line::rule_asked(&word[..n]) {
-        Rule::Number(number) => read_by(number, buf, t),
-        Rule::Unknown => say_unknown(&word[..n]),
+    let n = os::arg(i, &mut word);
+    let number = known(command_line::rule_asked(&word[..n]));
+    if number == 0 {
+        unknown(&word[..n]);
     }
+    number
 }
 
-fn answer(buf: &mut [u8], t: &mut [u32]) {
-    match os::arg_count() {
-        0 | 1 => explain(),
-        2 | 3 => read_asked(buf, t),
-        _ => say(b"read: too many arguments; usage: read RULE [FILE]\n"),
+// RULE alone.
+fn read_input(buf: &mut [u8], t: &mut [u32]) -> u8 {
+    let number = rule_at(1);
+    if number == 0 {
+        return 3;
     }
+    read_file(number, false, b"-", buf, t)
+}
+
+// RULE FILE, by the numbers of these arguments.
+fn read_pair(rule: usize, file: usize, several: bool, buf: &mut [u8], t: &mut [u32]) -> u8 {
+    let number = rule_at(rule);
+    if number == 0 {
+        return 3;
+    }
+    let mut path = io::buffer();
+    let n = os::arg(file, &mut path);
+    if os::errno() != 0 {
+        os::fail(b"read: cannot open FILE");
+        return 3;
+    }
+    read_file(number, several, &path[..n], buf, t)
+}
+
+fn read_pairs(pairs: usize, buf: &mut [u8], t: &mut [u32]) -> u8
+    requires { ⌜ pairs ≤ 9223372036854775807 ⌝ }
+{
+    let several = 1 < pairs;
+    let mut status: u8 = 0;
+    let mut k: usize = 0;
+    while k < pairs {
+        let more = read_pair(2 * k + 1, 2 * k + 2, several, buf, t);
+        status = command_line::worse(status, more);
+        k += 1;
+    }
+    status
+}
+
+fn misused() -> u8 {
+    io::write_all(
+        2,
+        b"read: wrong usage; read RULE [FILE], or RULE FILE RULE FILE ..; read --help says more\n",
+    );
+    3
+}
+
+fn answer(buf: &mut [u8], t: &mut [u32]) -> u8 {
+    let count = os::arg_count();
+    if count == 2 {
+        return read_input(buf, t);
+    }
+    if count < 2 || count % 2 == 0 {
+        return misused();
+    }
+    read_pairs(count / 2, buf, t)
 }
 
 // Arrays, and not slices, so that nothing has to be computed of a million bytes.
 fn with_room(buf: &mut [u8; 1048577], t: &mut [u32; 786432]) {
-    answer(buf, t);
+    command_line::leave(answer(buf, t));
 }
 
 fn main() {

@@ -1,4 +1,4 @@
--- Document 01's numbers for each case of the answer, and the promise of a reading.
+-- The numbers of docs/RULES.md for each case of the answer, and the promise of a reading.
 use Prim.Native.Nat.{ℕ}
 use mathlib.Core.Path.{_≡_}
 use mathlib.Core.List.{List}

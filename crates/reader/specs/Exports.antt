@@ -16,7 +16,7 @@ front-if false numbers out = out
 unfoldable pub in-front : List ℕ → List ℕ → List ℕ
 in-front numbers out = front-if (leb (length numbers) (length out)) numbers out
 
--- answer, taken, nodes and wanted, in document 01's order
+-- answer, taken, nodes and wanted, in this order
 abbrev pub numbers : Result → List ℕ
 numbers r = r .answer ∷ r .taken ∷ r .nodes ∷ r .wanted ∷ []
 
@@ -26,7 +26,7 @@ pub record Reports (n : ℕ) (s t out : List ℕ) (r : ℕ) (t′ out′ : List 
   pub table : t′ ≡ result n s t .table
   pub words : out′ ≡ in-front (numbers (result n s t)) out
 
--- THE PROMISE of elbomavund_view: the answer 0 or 7, and where the part begins and how long it is, "the empty one at offset 0" on 7
+-- THE PROMISE of elbomavund_view: the answer 0 or 7, and where the part begins and how long it is, the empty one at offset 0 on 7
 pub record Shows (len : ℕ) (t : List ℕ) (node : ℕ) (out : List ℕ) (r : ℕ) (out′ : List ℕ) : Type 0 where
   pub answer : r ≡ answer-of (part-at len t node)
   pub words : out′ ≡ in-front (offset-of (part-at len t node) ∷ length-of (part-at len t node) ∷ []) out

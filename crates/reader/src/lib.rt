@@ -1,4 +1,4 @@
-//! The reading of a buffer by a rule number, with a lent table: document 01's "What a reading returns".
+//! The reading of a buffer by a rule number, with a lent table: docs/RULES.md, "Answers".
 //!
 //! Two passes. The first is lent no word of the table: it gives the answer and counts the nodes. The second is lent exactly
 //! the nodes' words. So a reading that is not accepted changes no word, and an abandoned alternative leaves nothing behind.
@@ -14,7 +14,7 @@ ghost use Rattle.table.specs.Promise.{Room, Does};
 ghost use Rattle.reader.specs.Answers.{Answers};
 ghost use Rattle.reader.specs.Exports.{in-front, Reports, Shows};
 
-// What a reading answers. specs/Answers.antt gives document 01's numbers for each case.
+// What a reading answers. specs/Answers.antt gives the number of each case.
 pub enum Answer {
     Accepted { taken: usize, nodes: usize },
     Unfinished { wanted: usize },
@@ -57,7 +57,7 @@ fn structure_rules(number: u32, s: &[u8], t: &mut [u32]) -> Step
         11 => rfc3501_body::section(s, 0, t),
         12 => rfc5464::entry_name(s, 0, t),
         13 => rfc3501_envelope::envelope(s, 0, t),
-        _ => rfc3501_body_structure::body(s, 0, t, 16),
+        _ => rfc3501_body_structure::body(s, 0, t, grammar::DEEPEST_LEVEL),
     }
 }
 
@@ -88,7 +88,7 @@ fn attribute_rules(number: u32, s: &[u8], t: &mut [u32]) -> Step
         22 => rfc5464::metadata_solicited(s, 0, t),
         23 => rfc5464::metadata_unsolicited(s, 0, t),
         24 => rfc3501_envelope::msg_att_envelope(s, 0, t),
-        _ => rfc3501_body_structure::msg_att_body_structure(s, 0, t, 16),
+        _ => rfc3501_body_structure::msg_att_body_structure(s, 0, t, grammar::DEEPEST_LEVEL),
     }
 }
 
@@ -112,7 +112,7 @@ fn read_known(number: u32, s: &[u8], t: &mut [u32]) -> Answer
     requires { ⌜ (1 ≤ number) × (number ≤ last-rule) ⌝ }
     ensures { λ r. ⌜ Answers number (now (s .entry)) (now (t .entry)) r (now (t .exit)) ⌝ }
 {
-    if 16777216 < s.len() {
+    if grammar::LENGTH_LIMIT < s.len() {
         return Answer::TooLong;
     }
     let first = once(number, s, &mut t[..0]);
@@ -169,7 +169,7 @@ fn put_part(out: &mut [u64], answer: u32, offset: usize, len: usize) -> u32
     answer
 }
 
-// `read`, with document 01's numbers: the answer is returned, and all four go to the first four words of out.
+// `read`, in numbers: the answer is returned, and all four go to the first four words of out.
 #[no_mangle]
 pub extern "C" fn elbomavund_read(number: u32, s: &[u8], t: &mut [u32], out: &mut [u64]) -> u32
     ensures { λ r. ⌜ Reports number (now (s .entry)) (now (t .entry)) (now (out .entry)) r (now (t .exit)) (now (out .exit)) ⌝ }

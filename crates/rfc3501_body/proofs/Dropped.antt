@@ -3,7 +3,7 @@ use Prim.Native.Nat.{ℕ}
 use mathlib.Core.Path.{_≡_, refl, sym, ap, subst, _∙_}
 use mathlib.Core.List.{List}
 use Rattle.grammar.specs.Forest.{none, size}
-use Rattle.grammar.specs.Out.{Out, took, more, refused, deep, then}
+use Rattle.grammar.specs.Out.{Out, took, more, refused, deep, followed-by}
 use Rattle.grammar.specs.Grammar.{G, does, dropped, act, run}
 use Rattle.table.specs.declared.Step.{Step}
 use Rattle.table.specs.declared.Step.the-variants.{Took, More, Refused, Deep}

@@ -1,7 +1,7 @@
 //! Sections and BODY items: imap-proto 0.17.0's src/rfc3501/body.rs.
 
 use table::Step;
-ghost use Rattle.grammar.specs.Notation.{_⋯_, _∣_, exact, any-case, sp, space0, space1, opt, absent, skip-opt, opening, closing, separated-list1, separated-list0, many1, parenthesized-list, parenthesized-nonempty-list};
+ghost use Rattle.grammar.specs.Notation.{_⋯_, _or_, exact, any-case, sp, space0, space1, opt, absent, skip-opt, opening, closing, separated-list1, separated-list0, many1, parenthesized-list, parenthesized-nonempty-list};
 ghost use Rattle.grammar.specs.Grammar.{does, node, dropped};
 ghost use Rattle.grammar.specs.Kinds.{kind-section-part};
 ghost use Rattle.grammar.specs.Core.{number, nstring, astring};
@@ -9,7 +9,7 @@ ghost use Rattle.grammar.specs.Body.{a-header, a-mime, a-text, header-fields, s
 ghost use Rattle.table.specs.Promise.{Room, RoomAfter, Does, Goes, Skims, SkimsOn};
 
 // [".NOT"]
-pub fn opt_not(s: &[u8], at: usize) -> Step
+fn opt_not(s: &[u8], at: usize) -> Step
     requires { ⌜ Room (now s) at ⌝ }
     ensures { λ r. ⌜ Skims (skip-opt (any-case ".NOT")) (now (s .entry)) at r ⌝ }
 {
@@ -20,7 +20,7 @@ pub fn opt_not(s: &[u8], at: usize) -> Step
     Step::Took { next: at, nodes: 0 }
 }
 
-pub fn then_opt_not(s: &[u8], r: Step) -> Step
+fn then_opt_not(s: &[u8], r: Step) -> Step
     requires { ⌜ RoomAfter (now s) r ⌝ }
     ensures { λ q. ⌜ SkimsOn (skip-opt (any-case ".NOT")) (now (s .entry)) r q ⌝ }
 {
@@ -32,7 +32,7 @@ pub fn then_opt_not(s: &[u8], r: Step) -> Step
 }
 
 // header-list, its names' nodes dropped: it is lent no table
-pub fn header_list(s: &[u8], at: usize) -> Step
+fn header_list(s: &[u8], at: usize) -> Step
     requires { ⌜ Room (now s) at ⌝ }
     ensures { λ r. ⌜ Skims (does dropped (parenthesized-list astring)) (now (s .entry)) at r ⌝ }
 {
@@ -44,7 +44,7 @@ pub fn header_list(s: &[u8], at: usize) -> Step
     Step::Took { next, nodes: 0 }
 }
 
-pub fn then_header_list(s: &[u8], r: Step) -> Step
+fn then_header_list(s: &[u8], r: Step) -> Step
     requires { ⌜ RoomAfter (now s) r ⌝ }
     ensures { λ q. ⌜ SkimsOn (does dropped (parenthesized-list astring)) (now (s .entry)) r q ⌝ }
 {
@@ -56,7 +56,7 @@ pub fn then_header_list(s: &[u8], r: Step) -> Step
 }
 
 // "HEADER.FIELDS" [".NOT"] SP header-list
-pub fn header_fields(s: &[u8], at: usize, t: &mut [u32]) -> Step
+fn header_fields(s: &[u8], at: usize, t: &mut [u32]) -> Step
     requires { ⌜ Room (now s) at ⌝ }
     ensures { λ r. ⌜ Does 0 header-fields (now (s .entry)) at r (now (t .entry)) (now (t .exit)) ⌝ }
 {
@@ -68,7 +68,7 @@ pub fn header_fields(s: &[u8], at: usize, t: &mut [u32]) -> Step
 }
 
 // "HEADER"
-pub fn header_text(s: &[u8], at: usize, t: &mut [u32]) -> Step
+fn header_text(s: &[u8], at: usize, t: &mut [u32]) -> Step
     requires { ⌜ Room (now s) at ⌝ }
     ensures { λ r. ⌜ Does 0 (any-case "HEADER" ⋯ a-header) (now (s .entry)) at r (now (t .entry)) (now (t .exit)) ⌝ }
 {
@@ -77,7 +77,7 @@ pub fn header_text(s: &[u8], at: usize, t: &mut [u32]) -> Step
 }
 
 // "TEXT"
-pub fn text_text(s: &[u8], at: usize, t: &mut [u32]) -> Step
+fn text_text(s: &[u8], at: usize, t: &mut [u32]) -> Step
     requires { ⌜ Room (now s) at ⌝ }
     ensures { λ r. ⌜ Does 0 (any-case "TEXT" ⋯ a-text) (now (s .entry)) at r (now (t .entry)) (now (t .exit)) ⌝ }
 {
@@ -86,7 +86,7 @@ pub fn text_text(s: &[u8], at: usize, t: &mut [u32]) -> Step
 }
 
 // "MIME"
-pub fn mime_text(s: &[u8], at: usize, t: &mut [u32]) -> Step
+fn mime_text(s: &[u8], at: usize, t: &mut [u32]) -> Step
     requires { ⌜ Room (now s) at ⌝ }
     ensures { λ r. ⌜ Does 0 (any-case "MIME" ⋯ a-mime) (now (s .entry)) at r (now (t .entry)) (now (t .exit)) ⌝ }
 {
@@ -95,9 +95,9 @@ pub fn mime_text(s: &[u8], at: usize, t: &mut [u32]) -> Step
 }
 
 // "HEADER" / "TEXT"
-pub fn header_or_text(s: &[u8], at: usize, t: &mut [u32]) -> Step
+fn header_or_text(s: &[u8], at: usize, t: &mut [u32]) -> Step
     requires { ⌜ Room (now s) at ⌝ }
-    ensures { λ r. ⌜ Does 0 ((any-case "HEADER" ⋯ a-header) ∣ (any-case "TEXT" ⋯ a-text)) (now (s .entry)) at r (now (t .entry)) (now (t .exit)) ⌝ }
+    ensures { λ r. ⌜ Does 0 ((any-case "HEADER" ⋯ a-header) or (any-case "TEXT" ⋯ a-text)) (now (s .entry)) at r (now (t .entry)) (now (t .exit)) ⌝ }
 {
     let r = header_text(s, at, t);
     let Step::Refused = r else {
@@ -107,7 +107,7 @@ pub fn header_or_text(s: &[u8], at: usize, t: &mut [u32]) -> Step
 }
 
 // section-msgtext = "HEADER" / "HEADER.FIELDS" [".NOT"] SP header-list / "TEXT"
-pub fn section_msgtext(s: &[u8], at: usize, t: &mut [u32]) -> Step
+fn section_msgtext(s: &[u8], at: usize, t: &mut [u32]) -> Step
     requires { ⌜ Room (now s) at ⌝ }
     ensures { λ r. ⌜ Does 0 section-msgtext (now (s .entry)) at r (now (t .entry)) (now (t .exit)) ⌝ }
 {
@@ -119,7 +119,7 @@ pub fn section_msgtext(s: &[u8], at: usize, t: &mut [u32]) -> Step
 }
 
 // section-text = section-msgtext / "MIME"
-pub fn section_text(s: &[u8], at: usize, t: &mut [u32]) -> Step
+fn section_text(s: &[u8], at: usize, t: &mut [u32]) -> Step
     requires { ⌜ Room (now s) at ⌝ }
     ensures { λ r. ⌜ Does 0 section-text (now (s .entry)) at r (now (t .entry)) (now (t .exit)) ⌝ }
 {
@@ -130,7 +130,7 @@ pub fn section_text(s: &[u8], at: usize, t: &mut [u32]) -> Step
     mime_text(s, at, t)
 }
 
-pub fn then_section_text(s: &[u8], r: Step, t: &mut [u32]) -> Step
+fn then_section_text(s: &[u8], r: Step, t: &mut [u32]) -> Step
     requires { ⌜ RoomAfter (now s) r ⌝ }
     ensures { λ q. ⌜ Goes 0 section-text (now (s .entry)) r q (now (t .entry)) (now (t .exit)) ⌝ }
 {
@@ -143,7 +143,7 @@ pub fn then_section_text(s: &[u8], r: Step, t: &mut [u32]) -> Step
 }
 
 // "." nz-number
-pub fn dot_number(s: &[u8], at: usize, t: &mut [u32]) -> Step
+fn dot_number(s: &[u8], at: usize, t: &mut [u32]) -> Step
     requires { ⌜ Room (now s) at ⌝ }
     ensures { λ r. ⌜ Does 0 (exact "." ⋯ number) (now (s .entry)) at r (now (t .entry)) (now (t .exit)) ⌝ }
 {
@@ -152,7 +152,7 @@ pub fn dot_number(s: &[u8], at: usize, t: &mut [u32]) -> Step
 }
 
 // section-part = nz-number *("." nz-number)
-pub fn section_part(s: &[u8], at: usize, t: &mut [u32]) -> Step
+fn section_part(s: &[u8], at: usize, t: &mut [u32]) -> Step
     requires { ⌜ Room (now s) at ⌝ }
     ensures { λ r. ⌜ Does 0 section-part (now (s .entry)) at r (now (t .entry)) (now (t .exit)) ⌝ }
 {
@@ -185,7 +185,7 @@ pub fn section_part(s: &[u8], at: usize, t: &mut [u32]) -> Step
 }
 
 // "." section-text
-pub fn dot_text(s: &[u8], at: usize, t: &mut [u32]) -> Step
+fn dot_text(s: &[u8], at: usize, t: &mut [u32]) -> Step
     requires { ⌜ Room (now s) at ⌝ }
     ensures { λ r. ⌜ Does 0 (exact "." ⋯ section-text) (now (s .entry)) at r (now (t .entry)) (now (t .exit)) ⌝ }
 {
@@ -194,7 +194,7 @@ pub fn dot_text(s: &[u8], at: usize, t: &mut [u32]) -> Step
 }
 
 // ["." section-text]
-pub fn opt_text(s: &[u8], at: usize, t: &mut [u32]) -> Step
+fn opt_text(s: &[u8], at: usize, t: &mut [u32]) -> Step
     requires { ⌜ Room (now s) at ⌝ }
     ensures { λ r. ⌜ Does 0 (opt (exact "." ⋯ section-text)) (now (s .entry)) at r (now (t .entry)) (now (t .exit)) ⌝ }
 {
@@ -205,7 +205,7 @@ pub fn opt_text(s: &[u8], at: usize, t: &mut [u32]) -> Step
     table::mark(t, at, grammar::KIND_ABSENT, 0)
 }
 
-pub fn then_opt_text(s: &[u8], r: Step, t: &mut [u32]) -> Step
+fn then_opt_text(s: &[u8], r: Step, t: &mut [u32]) -> Step
     requires { ⌜ RoomAfter (now s) r ⌝ }
     ensures { λ q. ⌜ Goes 0 (opt (exact "." ⋯ section-text)) (now (s .entry)) r q (now (t .entry)) (now (t .exit)) ⌝ }
 {
@@ -218,7 +218,7 @@ pub fn then_opt_text(s: &[u8], r: Step, t: &mut [u32]) -> Step
 }
 
 // section-part ["." section-text]
-pub fn part_fields(s: &[u8], at: usize, t: &mut [u32]) -> Step
+fn part_fields(s: &[u8], at: usize, t: &mut [u32]) -> Step
     requires { ⌜ Room (now s) at ⌝ }
     ensures { λ r. ⌜ Does 0 (section-part ⋯ opt (exact "." ⋯ section-text)) (now (s .entry)) at r (now (t .entry)) (now (t .exit)) ⌝ }
 {
@@ -227,7 +227,7 @@ pub fn part_fields(s: &[u8], at: usize, t: &mut [u32]) -> Step
 }
 
 // The same as a node
-pub fn part(s: &[u8], at: usize, t: &mut [u32]) -> Step
+fn part(s: &[u8], at: usize, t: &mut [u32]) -> Step
     requires { ⌜ Room (now s) at ⌝ }
     ensures { λ r. ⌜ Does 0 (does (node kind-section-part) (section-part ⋯ opt (exact "." ⋯ section-text))) (now (s .entry)) at r (now (t .entry)) (now (t .exit)) ⌝ }
 {
@@ -237,7 +237,7 @@ pub fn part(s: &[u8], at: usize, t: &mut [u32]) -> Step
 }
 
 // section-spec = section-msgtext / (section-part ["." section-text])
-pub fn section_spec(s: &[u8], at: usize, t: &mut [u32]) -> Step
+fn section_spec(s: &[u8], at: usize, t: &mut [u32]) -> Step
     requires { ⌜ Room (now s) at ⌝ }
     ensures { λ r. ⌜ Does 0 section-spec (now (s .entry)) at r (now (t .entry)) (now (t .exit)) ⌝ }
 {
@@ -249,7 +249,7 @@ pub fn section_spec(s: &[u8], at: usize, t: &mut [u32]) -> Step
 }
 
 // [section-spec]
-pub fn opt_spec(s: &[u8], at: usize, t: &mut [u32]) -> Step
+fn opt_spec(s: &[u8], at: usize, t: &mut [u32]) -> Step
     requires { ⌜ Room (now s) at ⌝ }
     ensures { λ r. ⌜ Does 0 (opt section-spec) (now (s .entry)) at r (now (t .entry)) (now (t .exit)) ⌝ }
 {
@@ -260,7 +260,7 @@ pub fn opt_spec(s: &[u8], at: usize, t: &mut [u32]) -> Step
     table::mark(t, at, grammar::KIND_ABSENT, 0)
 }
 
-pub fn then_opt_spec(s: &[u8], r: Step, t: &mut [u32]) -> Step
+fn then_opt_spec(s: &[u8], r: Step, t: &mut [u32]) -> Step
     requires { ⌜ RoomAfter (now s) r ⌝ }
     ensures { λ q. ⌜ Goes 0 (opt section-spec) (now (s .entry)) r q (now (t .entry)) (now (t .exit)) ⌝ }
 {
@@ -282,7 +282,7 @@ pub fn section(s: &[u8], at: usize, t: &mut [u32]) -> Step
     lists::then_char(s, r, b']')
 }
 
-pub fn then_section(s: &[u8], r: Step, t: &mut [u32]) -> Step
+fn then_section(s: &[u8], r: Step, t: &mut [u32]) -> Step
     requires { ⌜ RoomAfter (now s) r ⌝ }
     ensures { λ q. ⌜ Goes 0 section (now (s .entry)) r q (now (t .entry)) (now (t .exit)) ⌝ }
 {
@@ -295,7 +295,7 @@ pub fn then_section(s: &[u8], r: Step, t: &mut [u32]) -> Step
 }
 
 // "<" number ">"
-pub fn index(s: &[u8], at: usize, t: &mut [u32]) -> Step
+fn index(s: &[u8], at: usize, t: &mut [u32]) -> Step
     requires { ⌜ Room (now s) at ⌝ }
     ensures { λ r. ⌜ Does 0 (exact "<" ⋯ number ⋯ exact ">") (now (s .entry)) at r (now (t .entry)) (now (t .exit)) ⌝ }
 {
@@ -305,7 +305,7 @@ pub fn index(s: &[u8], at: usize, t: &mut [u32]) -> Step
 }
 
 // ["<" number ">"]
-pub fn opt_index(s: &[u8], at: usize, t: &mut [u32]) -> Step
+fn opt_index(s: &[u8], at: usize, t: &mut [u32]) -> Step
     requires { ⌜ Room (now s) at ⌝ }
     ensures { λ r. ⌜ Does 0 (opt (exact "<" ⋯ number ⋯ exact ">")) (now (s .entry)) at r (now (t .entry)) (now (t .exit)) ⌝ }
 {
@@ -316,7 +316,7 @@ pub fn opt_index(s: &[u8], at: usize, t: &mut [u32]) -> Step
     table::mark(t, at, grammar::KIND_ABSENT, 0)
 }
 
-pub fn then_opt_index(s: &[u8], r: Step, t: &mut [u32]) -> Step
+fn then_opt_index(s: &[u8], r: Step, t: &mut [u32]) -> Step
     requires { ⌜ RoomAfter (now s) r ⌝ }
     ensures { λ q. ⌜ Goes 0 (opt (exact "<" ⋯ number ⋯ exact ">")) (now (s .entry)) r q (now (t .entry)) (now (t .exit)) ⌝ }
 {
@@ -329,7 +329,7 @@ pub fn then_opt_index(s: &[u8], r: Step, t: &mut [u32]) -> Step
 }
 
 // "BODY" section ["<" number ">"] SP nstring
-pub fn body_section_fields(s: &[u8], at: usize, t: &mut [u32]) -> Step
+fn body_section_fields(s: &[u8], at: usize, t: &mut [u32]) -> Step
     requires { ⌜ Room (now s) at ⌝ }
     ensures { λ r. ⌜ Does 0 (any-case "BODY" ⋯ section ⋯ opt (exact "<" ⋯ number ⋯ exact ">") ⋯ sp ⋯ nstring) (now (s .entry)) at r (now (t .entry)) (now (t .exit)) ⌝ }
 {

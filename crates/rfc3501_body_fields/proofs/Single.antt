@@ -8,7 +8,7 @@ use lib.Dec.{T}
 use borrow.Rule.Slice.PartMut.{putMid}
 use Rattle.grammar.specs.Kinds.{kind-list}
 use Rattle.grammar.specs.Forest.{Forest, size, count}
-use Rattle.grammar.specs.Out.{Out, took, more, refused, deep, then}
+use Rattle.grammar.specs.Out.{Out, took, more, refused, deep, followed-by}
 use Rattle.grammar.specs.Grammar.{G, does, listed, act, run}
 use Rattle.table.specs.declared.Step.{Step}
 use Rattle.table.specs.declared.Step.the-variants.{Took, More, Refused, Deep}

@@ -1,15 +1,15 @@
 //! The fields of body structures that hold no body: the first half of imap-proto 0.17.0's src/rfc3501/body_structure.rs.
 
 use table::Step;
-ghost use Rattle.grammar.specs.Notation.{_⋯_, _∣_, exact, sp, opening, closing, absent, separated-list1, parenthesized-nonempty-list};
+ghost use Rattle.grammar.specs.Notation.{_⋯_, _or_, exact, sp, opening, closing, absent, separated-list1, parenthesized-nonempty-list};
 ghost use Rattle.grammar.specs.Grammar.{does, node, listed};
 ghost use Rattle.grammar.specs.Kinds.{kind-pair, kind-disposition};
 ghost use Rattle.grammar.specs.Core.{number, string, nil, nstring};
-ghost use Rattle.grammar.specs.BodyStructure.{body-param, body-disposition, body-lang, encoding-is, known-encoding, body-encoding, body-fields, absent-2, absent-3, absent-4, absent-5};
+ghost use Rattle.grammar.specs.BodyStructure.{body-param, body-disposition, body-lang, encoding-is, known-encoding, body-encoding, body-fields, absents};
 ghost use Rattle.table.specs.Promise.{Room, RoomAfter, Does, Goes, Skims, SkimsOn};
 
 // string SP string
-pub fn param_fields(s: &[u8], at: usize, t: &mut [u32]) -> Step
+fn param_fields(s: &[u8], at: usize, t: &mut [u32]) -> Step
     requires { ⌜ Room (now s) at ⌝ }
     ensures { λ r. ⌜ Does 0 (string ⋯ sp ⋯ string) (now (s .entry)) at r (now (t .entry)) (now (t .exit)) ⌝ }
 {
@@ -19,7 +19,7 @@ pub fn param_fields(s: &[u8], at: usize, t: &mut [u32]) -> Step
 }
 
 // One parameter: a pair.
-pub fn param(s: &[u8], at: usize, t: &mut [u32]) -> Step
+fn param(s: &[u8], at: usize, t: &mut [u32]) -> Step
     requires { ⌜ Room (now s) at ⌝ }
     ensures { λ r. ⌜ Does 0 (does (node kind-pair) (string ⋯ sp ⋯ string)) (now (s .entry)) at r (now (t .entry)) (now (t .exit)) ⌝ }
 {
@@ -28,7 +28,7 @@ pub fn param(s: &[u8], at: usize, t: &mut [u32]) -> Step
     table::finish(t, grammar::KIND_PAIR, at, r)
 }
 
-pub fn then_param(s: &[u8], r: Step, t: &mut [u32]) -> Step
+fn then_param(s: &[u8], r: Step, t: &mut [u32]) -> Step
     requires { ⌜ RoomAfter (now s) r ⌝ }
     ensures { λ q. ⌜ Goes 0 (does (node kind-pair) (string ⋯ sp ⋯ string)) (now (s .entry)) r q (now (t .entry)) (now (t .exit)) ⌝ }
 {
@@ -41,7 +41,7 @@ pub fn then_param(s: &[u8], r: Step, t: &mut [u32]) -> Step
 }
 
 // SP and a parameter.
-pub fn sp_param(s: &[u8], at: usize, t: &mut [u32]) -> Step
+fn sp_param(s: &[u8], at: usize, t: &mut [u32]) -> Step
     requires { ⌜ Room (now s) at ⌝ }
     ensures { λ r. ⌜ Does 0 (sp ⋯ does (node kind-pair) (string ⋯ sp ⋯ string)) (now (s .entry)) at r (now (t .entry)) (now (t .exit)) ⌝ }
 {
@@ -50,7 +50,7 @@ pub fn sp_param(s: &[u8], at: usize, t: &mut [u32]) -> Step
 }
 
 // Parameters, with a space between two of them.
-pub fn params(s: &[u8], at: usize, t: &mut [u32]) -> Step
+fn params(s: &[u8], at: usize, t: &mut [u32]) -> Step
     requires { ⌜ Room (now s) at ⌝ }
     ensures { λ r. ⌜ Does 0 (separated-list1 sp (does (node kind-pair) (string ⋯ sp ⋯ string))) (now (s .entry)) at r (now (t .entry)) (now (t .exit)) ⌝ }
 {
@@ -82,7 +82,7 @@ pub fn params(s: &[u8], at: usize, t: &mut [u32]) -> Step
     }
 }
 
-pub fn then_params(s: &[u8], r: Step, t: &mut [u32]) -> Step
+fn then_params(s: &[u8], r: Step, t: &mut [u32]) -> Step
     requires { ⌜ RoomAfter (now s) r ⌝ }
     ensures { λ q. ⌜ Goes 0 (separated-list1 sp (does (node kind-pair) (string ⋯ sp ⋯ string))) (now (s .entry)) r q (now (t .entry)) (now (t .exit)) ⌝ }
 {
@@ -95,7 +95,7 @@ pub fn then_params(s: &[u8], r: Step, t: &mut [u32]) -> Step
 }
 
 // "(" string SP string *(SP string SP string) ")"
-pub fn some_params(s: &[u8], at: usize, t: &mut [u32]) -> Step
+fn some_params(s: &[u8], at: usize, t: &mut [u32]) -> Step
     requires { ⌜ Room (now s) at ⌝ }
     ensures { λ r. ⌜ Does 0 (parenthesized-nonempty-list (does (node kind-pair) (string ⋯ sp ⋯ string))) (now (s .entry)) at r (now (t .entry)) (now (t .exit)) ⌝ }
 {
@@ -106,7 +106,7 @@ pub fn some_params(s: &[u8], at: usize, t: &mut [u32]) -> Step
 }
 
 // body-fld-param = "(" string SP string *(SP string SP string) ")" / nil
-pub fn body_param(s: &[u8], at: usize, t: &mut [u32]) -> Step
+fn body_param(s: &[u8], at: usize, t: &mut [u32]) -> Step
     requires { ⌜ Room (now s) at ⌝ }
     ensures { λ r. ⌜ Does 0 body-param (now (s .entry)) at r (now (t .entry)) (now (t .exit)) ⌝ }
 {
@@ -130,7 +130,7 @@ pub fn then_body_param(s: &[u8], r: Step, t: &mut [u32]) -> Step
 }
 
 // "(" string SP body-fld-param ")"
-pub fn disposition_fields(s: &[u8], at: usize, t: &mut [u32]) -> Step
+fn disposition_fields(s: &[u8], at: usize, t: &mut [u32]) -> Step
     requires { ⌜ Room (now s) at ⌝ }
     ensures { λ r. ⌜ Does 0 (opening ⋯ string ⋯ sp ⋯ body-param ⋯ closing) (now (s .entry)) at r (now (t .entry)) (now (t .exit)) ⌝ }
 {
@@ -142,7 +142,7 @@ pub fn disposition_fields(s: &[u8], at: usize, t: &mut [u32]) -> Step
 }
 
 // The same as a node.
-pub fn disposition(s: &[u8], at: usize, t: &mut [u32]) -> Step
+fn disposition(s: &[u8], at: usize, t: &mut [u32]) -> Step
     requires { ⌜ Room (now s) at ⌝ }
     ensures { λ r. ⌜ Does 0 (does (node kind-disposition) (opening ⋯ string ⋯ sp ⋯ body-param ⋯ closing)) (now (s .entry)) at r (now (t .entry)) (now (t .exit)) ⌝ }
 {
@@ -152,7 +152,7 @@ pub fn disposition(s: &[u8], at: usize, t: &mut [u32]) -> Step
 }
 
 // body-fld-dsp = "(" string SP body-fld-param ")" / nil
-pub fn body_disposition(s: &[u8], at: usize, t: &mut [u32]) -> Step
+fn body_disposition(s: &[u8], at: usize, t: &mut [u32]) -> Step
     requires { ⌜ Room (now s) at ⌝ }
     ensures { λ r. ⌜ Does 0 body-disposition (now (s .entry)) at r (now (t .entry)) (now (t .exit)) ⌝ }
 {
@@ -176,7 +176,7 @@ pub fn then_body_disposition(s: &[u8], r: Step, t: &mut [u32]) -> Step
 }
 
 // One string, as a list of one.
-pub fn one_string(s: &[u8], at: usize, t: &mut [u32]) -> Step
+fn one_string(s: &[u8], at: usize, t: &mut [u32]) -> Step
     requires { ⌜ Room (now s) at ⌝ }
     ensures { λ r. ⌜ Does 0 (does listed string) (now (s .entry)) at r (now (t .entry)) (now (t .exit)) ⌝ }
 {
@@ -193,9 +193,9 @@ pub fn one_string(s: &[u8], at: usize, t: &mut [u32]) -> Step
 }
 
 // string / "(" string *(SP string) ")"
-pub fn languages(s: &[u8], at: usize, t: &mut [u32]) -> Step
+fn languages(s: &[u8], at: usize, t: &mut [u32]) -> Step
     requires { ⌜ Room (now s) at ⌝ }
-    ensures { λ r. ⌜ Does 0 (does listed string ∣ parenthesized-nonempty-list string) (now (s .entry)) at r (now (t .entry)) (now (t .exit)) ⌝ }
+    ensures { λ r. ⌜ Does 0 (does listed string or parenthesized-nonempty-list string) (now (s .entry)) at r (now (t .entry)) (now (t .exit)) ⌝ }
 {
     let r = one_string(s, at, t);
     let Step::Refused = r else {
@@ -205,7 +205,7 @@ pub fn languages(s: &[u8], at: usize, t: &mut [u32]) -> Step
 }
 
 // body-fld-lang = nstring / "(" string *(SP string) ")"
-pub fn body_lang(s: &[u8], at: usize, t: &mut [u32]) -> Step
+fn body_lang(s: &[u8], at: usize, t: &mut [u32]) -> Step
     requires { ⌜ Room (now s) at ⌝ }
     ensures { λ r. ⌜ Does 0 body-lang (now (s .entry)) at r (now (t .entry)) (now (t .exit)) ⌝ }
 {
@@ -229,7 +229,7 @@ pub fn then_body_lang(s: &[u8], r: Step, t: &mut [u32]) -> Step
 }
 
 // "7BIT"
-pub fn encoding_7bit(s: &[u8], at: usize, t: &mut [u32]) -> Step
+fn encoding_7bit(s: &[u8], at: usize, t: &mut [u32]) -> Step
     requires { ⌜ Room (now s) at ⌝ }
     ensures { λ r. ⌜ Does 0 (encoding-is "7BIT" 1) (now (s .entry)) at r (now (t .entry)) (now (t .exit)) ⌝ }
 {
@@ -238,7 +238,7 @@ pub fn encoding_7bit(s: &[u8], at: usize, t: &mut [u32]) -> Step
 }
 
 // "8BIT"
-pub fn encoding_8bit(s: &[u8], at: usize, t: &mut [u32]) -> Step
+fn encoding_8bit(s: &[u8], at: usize, t: &mut [u32]) -> Step
     requires { ⌜ Room (now s) at ⌝ }
     ensures { λ r. ⌜ Does 0 (encoding-is "8BIT" 2) (now (s .entry)) at r (now (t .entry)) (now (t .exit)) ⌝ }
 {
@@ -247,7 +247,7 @@ pub fn encoding_8bit(s: &[u8], at: usize, t: &mut [u32]) -> Step
 }
 
 // "BINARY"
-pub fn encoding_binary(s: &[u8], at: usize, t: &mut [u32]) -> Step
+fn encoding_binary(s: &[u8], at: usize, t: &mut [u32]) -> Step
     requires { ⌜ Room (now s) at ⌝ }
     ensures { λ r. ⌜ Does 0 (encoding-is "BINARY" 3) (now (s .entry)) at r (now (t .entry)) (now (t .exit)) ⌝ }
 {
@@ -256,7 +256,7 @@ pub fn encoding_binary(s: &[u8], at: usize, t: &mut [u32]) -> Step
 }
 
 // "BASE64"
-pub fn encoding_base64(s: &[u8], at: usize, t: &mut [u32]) -> Step
+fn encoding_base64(s: &[u8], at: usize, t: &mut [u32]) -> Step
     requires { ⌜ Room (now s) at ⌝ }
     ensures { λ r. ⌜ Does 0 (encoding-is "BASE64" 4) (now (s .entry)) at r (now (t .entry)) (now (t .exit)) ⌝ }
 {
@@ -265,7 +265,7 @@ pub fn encoding_base64(s: &[u8], at: usize, t: &mut [u32]) -> Step
 }
 
 // "QUOTED-PRINTABLE"
-pub fn encoding_quoted_printable(s: &[u8], at: usize, t: &mut [u32]) -> Step
+fn encoding_quoted_printable(s: &[u8], at: usize, t: &mut [u32]) -> Step
     requires { ⌜ Room (now s) at ⌝ }
     ensures { λ r. ⌜ Does 0 (encoding-is "QUOTED-PRINTABLE" 5) (now (s .entry)) at r (now (t .entry)) (now (t .exit)) ⌝ }
 {
@@ -274,9 +274,9 @@ pub fn encoding_quoted_printable(s: &[u8], at: usize, t: &mut [u32]) -> Step
 }
 
 // The last two.
-pub fn encoding_from_base64(s: &[u8], at: usize, t: &mut [u32]) -> Step
+fn encoding_from_base64(s: &[u8], at: usize, t: &mut [u32]) -> Step
     requires { ⌜ Room (now s) at ⌝ }
-    ensures { λ r. ⌜ Does 0 (encoding-is "BASE64" 4 ∣ encoding-is "QUOTED-PRINTABLE" 5) (now (s .entry)) at r (now (t .entry)) (now (t .exit)) ⌝ }
+    ensures { λ r. ⌜ Does 0 (encoding-is "BASE64" 4 or encoding-is "QUOTED-PRINTABLE" 5) (now (s .entry)) at r (now (t .entry)) (now (t .exit)) ⌝ }
 {
     let r = encoding_base64(s, at, t);
     let Step::Refused = r else {
@@ -286,9 +286,9 @@ pub fn encoding_from_base64(s: &[u8], at: usize, t: &mut [u32]) -> Step
 }
 
 // The last three.
-pub fn encoding_from_binary(s: &[u8], at: usize, t: &mut [u32]) -> Step
+fn encoding_from_binary(s: &[u8], at: usize, t: &mut [u32]) -> Step
     requires { ⌜ Room (now s) at ⌝ }
-    ensures { λ r. ⌜ Does 0 (encoding-is "BINARY" 3 ∣ encoding-is "BASE64" 4 ∣ encoding-is "QUOTED-PRINTABLE" 5) (now (s .entry)) at r (now (t .entry)) (now (t .exit)) ⌝ }
+    ensures { λ r. ⌜ Does 0 (encoding-is "BINARY" 3 or encoding-is "BASE64" 4 or encoding-is "QUOTED-PRINTABLE" 5) (now (s .entry)) at r (now (t .entry)) (now (t .exit)) ⌝ }
 {
     let r = encoding_binary(s, at, t);
     let Step::Refused = r else {
@@ -298,9 +298,9 @@ pub fn encoding_from_binary(s: &[u8], at: usize, t: &mut [u32]) -> Step
 }
 
 // The last four.
-pub fn encoding_from_8bit(s: &[u8], at: usize, t: &mut [u32]) -> Step
+fn encoding_from_8bit(s: &[u8], at: usize, t: &mut [u32]) -> Step
     requires { ⌜ Room (now s) at ⌝ }
-    ensures { λ r. ⌜ Does 0 (encoding-is "8BIT" 2 ∣ encoding-is "BINARY" 3 ∣ encoding-is "BASE64" 4 ∣ encoding-is "QUOTED-PRINTABLE" 5) (now (s .entry)) at r (now (t .entry)) (now (t .exit)) ⌝ }
+    ensures { λ r. ⌜ Does 0 (encoding-is "8BIT" 2 or encoding-is "BINARY" 3 or encoding-is "BASE64" 4 or encoding-is "QUOTED-PRINTABLE" 5) (now (s .entry)) at r (now (t .entry)) (now (t .exit)) ⌝ }
 {
     let r = encoding_8bit(s, at, t);
     let Step::Refused = r else {
@@ -310,9 +310,9 @@ pub fn encoding_from_8bit(s: &[u8], at: usize, t: &mut [u32]) -> Step
 }
 
 // The encodings with a number.
-pub fn encoding_name(s: &[u8], at: usize, t: &mut [u32]) -> Step
+fn encoding_name(s: &[u8], at: usize, t: &mut [u32]) -> Step
     requires { ⌜ Room (now s) at ⌝ }
-    ensures { λ r. ⌜ Does 0 (encoding-is "7BIT" 1 ∣ encoding-is "8BIT" 2 ∣ encoding-is "BINARY" 3 ∣ encoding-is "BASE64" 4 ∣ encoding-is "QUOTED-PRINTABLE" 5) (now (s .entry)) at r (now (t .entry)) (now (t .exit)) ⌝ }
+    ensures { λ r. ⌜ Does 0 (encoding-is "7BIT" 1 or encoding-is "8BIT" 2 or encoding-is "BINARY" 3 or encoding-is "BASE64" 4 or encoding-is "QUOTED-PRINTABLE" 5) (now (s .entry)) at r (now (t .entry)) (now (t .exit)) ⌝ }
 {
     let r = encoding_7bit(s, at, t);
     let Step::Refused = r else {
@@ -321,9 +321,9 @@ pub fn encoding_name(s: &[u8], at: usize, t: &mut [u32]) -> Step
     encoding_from_8bit(s, at, t)
 }
 
-pub fn then_encoding_name(s: &[u8], r: Step, t: &mut [u32]) -> Step
+fn then_encoding_name(s: &[u8], r: Step, t: &mut [u32]) -> Step
     requires { ⌜ RoomAfter (now s) r ⌝ }
-    ensures { λ q. ⌜ Goes 0 (encoding-is "7BIT" 1 ∣ encoding-is "8BIT" 2 ∣ encoding-is "BINARY" 3 ∣ encoding-is "BASE64" 4 ∣ encoding-is "QUOTED-PRINTABLE" 5) (now (s .entry)) r q (now (t .entry)) (now (t .exit)) ⌝ }
+    ensures { λ q. ⌜ Goes 0 (encoding-is "7BIT" 1 or encoding-is "8BIT" 2 or encoding-is "BINARY" 3 or encoding-is "BASE64" 4 or encoding-is "QUOTED-PRINTABLE" 5) (now (s .entry)) r q (now (t .entry)) (now (t .exit)) ⌝ }
 {
     let Step::Took { next, nodes } = r else {
         return r;
@@ -334,7 +334,7 @@ pub fn then_encoding_name(s: &[u8], r: Step, t: &mut [u32]) -> Step
 }
 
 // DQUOTE ("7BIT" / "8BIT" / "BINARY" / "BASE64"/ "QUOTED-PRINTABLE") DQUOTE
-pub fn known_encoding(s: &[u8], at: usize, t: &mut [u32]) -> Step
+fn known_encoding(s: &[u8], at: usize, t: &mut [u32]) -> Step
     requires { ⌜ Room (now s) at ⌝ }
     ensures { λ r. ⌜ Does 0 known-encoding (now (s .entry)) at r (now (t .entry)) (now (t .exit)) ⌝ }
 {
@@ -344,7 +344,7 @@ pub fn known_encoding(s: &[u8], at: usize, t: &mut [u32]) -> Step
 }
 
 // body-fld-enc = a known encoding / string
-pub fn body_encoding(s: &[u8], at: usize, t: &mut [u32]) -> Step
+fn body_encoding(s: &[u8], at: usize, t: &mut [u32]) -> Step
     requires { ⌜ Room (now s) at ⌝ }
     ensures { λ r. ⌜ Does 0 body-encoding (now (s .entry)) at r (now (t .entry)) (now (t .exit)) ⌝ }
 {
@@ -355,7 +355,7 @@ pub fn body_encoding(s: &[u8], at: usize, t: &mut [u32]) -> Step
     core::string(s, at, t)
 }
 
-pub fn then_body_encoding(s: &[u8], r: Step, t: &mut [u32]) -> Step
+fn then_body_encoding(s: &[u8], r: Step, t: &mut [u32]) -> Step
     requires { ⌜ RoomAfter (now s) r ⌝ }
     ensures { λ q. ⌜ Goes 0 body-encoding (now (s .entry)) r q (now (t .entry)) (now (t .exit)) ⌝ }
 {
@@ -368,7 +368,7 @@ pub fn then_body_encoding(s: &[u8], r: Step, t: &mut [u32]) -> Step
 }
 
 // body-fields = body-fld-param SP body-fld-id SP body-fld-desc SP body-fld-enc SP body-fld-octets
-pub fn body_fields(s: &[u8], at: usize, t: &mut [u32]) -> Step
+fn body_fields(s: &[u8], at: usize, t: &mut [u32]) -> Step
     requires { ⌜ Room (now s) at ⌝ }
     ensures { λ r. ⌜ Does 0 body-fields (now (s .entry)) at r (now (t .entry)) (now (t .exit)) ⌝ }
 {
@@ -398,7 +398,7 @@ pub fn then_body_fields(s: &[u8], r: Step, t: &mut [u32]) -> Step
 // Two fields that are not there.
 pub fn absent_2(s: &[u8], at: usize, t: &mut [u32]) -> Step
     requires { ⌜ Room (now s) at ⌝ }
-    ensures { λ r. ⌜ Does 0 absent-2 (now (s .entry)) at r (now (t .entry)) (now (t .exit)) ⌝ }
+    ensures { λ r. ⌜ Does 0 (absents 2) (now (s .entry)) at r (now (t .entry)) (now (t .exit)) ⌝ }
 {
     let r = table::mark(t, at, grammar::KIND_ABSENT, 0);
     table::then_mark(t, r, grammar::KIND_ABSENT, 0)
@@ -407,7 +407,7 @@ pub fn absent_2(s: &[u8], at: usize, t: &mut [u32]) -> Step
 // Three.
 pub fn absent_3(s: &[u8], at: usize, t: &mut [u32]) -> Step
     requires { ⌜ Room (now s) at ⌝ }
-    ensures { λ r. ⌜ Does 0 absent-3 (now (s .entry)) at r (now (t .entry)) (now (t .exit)) ⌝ }
+    ensures { λ r. ⌜ Does 0 (absents 3) (now (s .entry)) at r (now (t .entry)) (now (t .exit)) ⌝ }
 {
     let r = absent_2(s, at, t);
     table::then_mark(t, r, grammar::KIND_ABSENT, 0)
@@ -416,7 +416,7 @@ pub fn absent_3(s: &[u8], at: usize, t: &mut [u32]) -> Step
 // Four.
 pub fn absent_4(s: &[u8], at: usize, t: &mut [u32]) -> Step
     requires { ⌜ Room (now s) at ⌝ }
-    ensures { λ r. ⌜ Does 0 absent-4 (now (s .entry)) at r (now (t .entry)) (now (t .exit)) ⌝ }
+    ensures { λ r. ⌜ Does 0 (absents 4) (now (s .entry)) at r (now (t .entry)) (now (t .exit)) ⌝ }
 {
     let r = absent_3(s, at, t);
     table::then_mark(t, r, grammar::KIND_ABSENT, 0)
@@ -425,7 +425,7 @@ pub fn absent_4(s: &[u8], at: usize, t: &mut [u32]) -> Step
 // Five.
 pub fn absent_5(s: &[u8], at: usize, t: &mut [u32]) -> Step
     requires { ⌜ Room (now s) at ⌝ }
-    ensures { λ r. ⌜ Does 0 absent-5 (now (s .entry)) at r (now (t .entry)) (now (t .exit)) ⌝ }
+    ensures { λ r. ⌜ Does 0 (absents 5) (now (s .entry)) at r (now (t .entry)) (now (t .exit)) ⌝ }
 {
     let r = absent_4(s, at, t);
     table::then_mark(t, r, grammar::KIND_ABSENT, 0)

@@ -2,14 +2,14 @@
 //! calls its message and multipart readers, which call the body reader one level deeper.
 
 use table::Step;
-ghost use Rattle.grammar.specs.Notation.{_⋯_, _∣_, any-case, sp, many1, paren-delimited};
+ghost use Rattle.grammar.specs.Notation.{_⋯_, _or_, any-case, sp, many1, paren-delimited};
 ghost use Rattle.grammar.specs.Grammar.{ref, a-body};
 ghost use Rattle.grammar.specs.Core.{number, string};
 ghost use Rattle.grammar.specs.BodyStructure.{body-fields, body-ext-1part, body-ext-mpart, body-type-text, message-fields, body-type-message, body-type-basic, body-type-multipart, msg-att-body-structure};
 ghost use Rattle.table.specs.Promise.{Room, RoomAfter, Does, Goes, Skims, SkimsOn};
 
 // media-text SP body-fields SP body-fld-lines [SP body-ext-1part]
-pub fn text_fields(s: &[u8], at: usize, t: &mut [u32], left: usize) -> Step
+fn text_fields(s: &[u8], at: usize, t: &mut [u32], left: usize) -> Step
     requires { ⌜ Room (now s) at ⌝ }
     ensures { λ r. ⌜ Does left (any-case "\"TEXT\"" ⋯ sp ⋯ string ⋯ sp ⋯ body-fields ⋯ sp ⋯ number ⋯ body-ext-1part) (now (s .entry)) at r (now (t .entry)) (now (t .exit)) ⌝ }
 {
@@ -24,7 +24,7 @@ pub fn text_fields(s: &[u8], at: usize, t: &mut [u32], left: usize) -> Step
 }
 
 // body-type-text
-pub fn body_type_text(s: &[u8], at: usize, t: &mut [u32], left: usize) -> Step
+fn body_type_text(s: &[u8], at: usize, t: &mut [u32], left: usize) -> Step
     requires { ⌜ Room (now s) at ⌝ }
     ensures { λ r. ⌜ Does left body-type-text (now (s .entry)) at r (now (t .entry)) (now (t .exit)) ⌝ }
 {
@@ -34,7 +34,7 @@ pub fn body_type_text(s: &[u8], at: usize, t: &mut [u32], left: usize) -> Step
 }
 
 // media-basic SP body-fields [SP body-ext-1part]
-pub fn basic_fields(s: &[u8], at: usize, t: &mut [u32], left: usize) -> Step
+fn basic_fields(s: &[u8], at: usize, t: &mut [u32], left: usize) -> Step
     requires { ⌜ Room (now s) at ⌝ }
     ensures { λ r. ⌜ Does left (string ⋯ sp ⋯ string ⋯ sp ⋯ body-fields ⋯ body-ext-1part) (now (s .entry)) at r (now (t .entry)) (now (t .exit)) ⌝ }
 {
@@ -47,7 +47,7 @@ pub fn basic_fields(s: &[u8], at: usize, t: &mut [u32], left: usize) -> Step
 }
 
 // body-type-basic
-pub fn body_type_basic(s: &[u8], at: usize, t: &mut [u32], left: usize) -> Step
+fn body_type_basic(s: &[u8], at: usize, t: &mut [u32], left: usize) -> Step
     requires { ⌜ Room (now s) at ⌝ }
     ensures { λ r. ⌜ Does left body-type-basic (now (s .entry)) at r (now (t .entry)) (now (t .exit)) ⌝ }
 {
@@ -57,7 +57,7 @@ pub fn body_type_basic(s: &[u8], at: usize, t: &mut [u32], left: usize) -> Step
 }
 
 // media-message SP body-fields SP envelope
-pub fn message_fields(s: &[u8], at: usize, t: &mut [u32]) -> Step
+fn message_fields(s: &[u8], at: usize, t: &mut [u32]) -> Step
     requires { ⌜ Room (now s) at ⌝ }
     ensures { λ r. ⌜ Does 0 message-fields (now (s .entry)) at r (now (t .entry)) (now (t .exit)) ⌝ }
 {
@@ -83,9 +83,9 @@ pub fn body(s: &[u8], at: usize, t: &mut [u32], left: usize) -> Step
 }
 
 // "(" (body-type-1part / body-type-mpart) ")"; a wrong ")" does not try the next
-pub fn body_inside(s: &[u8], at: usize, t: &mut [u32], left: usize) -> Step
+fn body_inside(s: &[u8], at: usize, t: &mut [u32], left: usize) -> Step
     requires { ⌜ Room (now s) at ⌝ }
-    ensures { λ r. ⌜ Does left (paren-delimited (body-type-text ∣ body-type-message ∣ body-type-basic ∣ body-type-multipart)) (now (s .entry)) at r (now (t .entry)) (now (t .exit)) ⌝ }
+    ensures { λ r. ⌜ Does left (paren-delimited (body-type-text or body-type-message or body-type-basic or body-type-multipart)) (now (s .entry)) at r (now (t .entry)) (now (t .exit)) ⌝ }
 {
     let r = core::char(s, at, b'(');
     let Step::Took { next, nodes: _ } = r else {
@@ -96,9 +96,9 @@ pub fn body_inside(s: &[u8], at: usize, t: &mut [u32], left: usize) -> Step
 }
 
 // text, message, basic, multipart, in that order
-pub fn body_types(s: &[u8], at: usize, t: &mut [u32], left: usize) -> Step
+fn body_types(s: &[u8], at: usize, t: &mut [u32], left: usize) -> Step
     requires { ⌜ Room (now s) at ⌝ }
-    ensures { λ r. ⌜ Does left (body-type-text ∣ body-type-message ∣ body-type-basic ∣ body-type-multipart) (now (s .entry)) at r (now (t .entry)) (now (t .exit)) ⌝ }
+    ensures { λ r. ⌜ Does left (body-type-text or body-type-message or body-type-basic or body-type-multipart) (now (s .entry)) at r (now (t .entry)) (now (t .exit)) ⌝ }
 {
     let r = body_type_text(s, at, t, left);
     let Step::Refused = r else {
@@ -116,7 +116,7 @@ pub fn body_types(s: &[u8], at: usize, t: &mut [u32], left: usize) -> Step
 }
 
 // body-type-msg
-pub fn body_type_message(s: &[u8], at: usize, t: &mut [u32], left: usize) -> Step
+fn body_type_message(s: &[u8], at: usize, t: &mut [u32], left: usize) -> Step
     requires { ⌜ Room (now s) at ⌝ }
     ensures { λ r. ⌜ Does left body-type-message (now (s .entry)) at r (now (t .entry)) (now (t .exit)) ⌝ }
 {
@@ -126,7 +126,7 @@ pub fn body_type_message(s: &[u8], at: usize, t: &mut [u32], left: usize) -> Ste
 }
 
 // message-fields SP body SP body-fld-lines [SP body-ext-1part]
-pub fn message_body(s: &[u8], at: usize, t: &mut [u32], left: usize) -> Step
+fn message_body(s: &[u8], at: usize, t: &mut [u32], left: usize) -> Step
     requires { ⌜ Room (now s) at ⌝ }
     ensures { λ r. ⌜ Does left (message-fields ⋯ sp ⋯ ref a-body ⋯ sp ⋯ number ⋯ body-ext-1part) (now (s .entry)) at r (now (t .entry)) (now (t .exit)) ⌝ }
 {
@@ -138,7 +138,7 @@ pub fn message_body(s: &[u8], at: usize, t: &mut [u32], left: usize) -> Step
     rfc3501_extension::then_body_ext_1part(s, r, t, left)
 }
 
-pub fn then_body(s: &[u8], r: Step, t: &mut [u32], left: usize) -> Step
+fn then_body(s: &[u8], r: Step, t: &mut [u32], left: usize) -> Step
     requires { ⌜ RoomAfter (now s) r ⌝ }
     ensures { λ q. ⌜ Goes left (ref a-body) (now (s .entry)) r q (now (t .entry)) (now (t .exit)) ⌝ }
 {
@@ -151,7 +151,7 @@ pub fn then_body(s: &[u8], r: Step, t: &mut [u32], left: usize) -> Step
 }
 
 // body-type-mpart
-pub fn body_type_multipart(s: &[u8], at: usize, t: &mut [u32], left: usize) -> Step
+fn body_type_multipart(s: &[u8], at: usize, t: &mut [u32], left: usize) -> Step
     requires { ⌜ Room (now s) at ⌝ }
     ensures { λ r. ⌜ Does left body-type-multipart (now (s .entry)) at r (now (t .entry)) (now (t .exit)) ⌝ }
 {
@@ -161,7 +161,7 @@ pub fn body_type_multipart(s: &[u8], at: usize, t: &mut [u32], left: usize) -> S
 }
 
 // 1*body SP media-subtype [SP body-ext-mpart]
-pub fn multipart_fields(s: &[u8], at: usize, t: &mut [u32], left: usize) -> Step
+fn multipart_fields(s: &[u8], at: usize, t: &mut [u32], left: usize) -> Step
     requires { ⌜ Room (now s) at ⌝ }
     ensures { λ r. ⌜ Does left (many1 (ref a-body) ⋯ sp ⋯ string ⋯ body-ext-mpart) (now (s .entry)) at r (now (t .entry)) (now (t .exit)) ⌝ }
 {
@@ -172,7 +172,7 @@ pub fn multipart_fields(s: &[u8], at: usize, t: &mut [u32], left: usize) -> Step
 }
 
 // 1*body
-pub fn bodies(s: &[u8], at: usize, t: &mut [u32], left: usize) -> Step
+fn bodies(s: &[u8], at: usize, t: &mut [u32], left: usize) -> Step
     requires { ⌜ Room (now s) at ⌝ }
     ensures { λ r. ⌜ Does left (many1 (ref a-body)) (now (s .entry)) at r (now (t .entry)) (now (t .exit)) ⌝ }
 {

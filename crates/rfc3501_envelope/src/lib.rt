@@ -2,13 +2,13 @@
 //! src/rfc3501/mod.rs.
 
 use table::Step;
-ghost use Rattle.grammar.specs.Notation.{_⋯_, _∣_, any-case, sp, opening, closing, skip-opt, many1, paren-delimited};
+ghost use Rattle.grammar.specs.Notation.{_⋯_, _or_, any-case, sp, opening, closing, skip-opt, many1, paren-delimited};
 ghost use Rattle.grammar.specs.Core.{nil, nstring};
 ghost use Rattle.grammar.specs.Envelope.{address, opt-addresses, env-origin, env-recipients, env-references, envelope, msg-att-envelope};
 ghost use Rattle.table.specs.Promise.{Room, RoomAfter, Does, Goes, Skims, SkimsOn};
 
 // "(" addr-name SP addr-adl SP addr-mailbox SP addr-host ")"
-pub fn address_fields(s: &[u8], at: usize, t: &mut [u32]) -> Step
+fn address_fields(s: &[u8], at: usize, t: &mut [u32]) -> Step
     requires { ⌜ Room (now s) at ⌝ }
     ensures { λ r. ⌜ Does 0 (opening ⋯ nstring ⋯ sp ⋯ nstring ⋯ sp ⋯ nstring ⋯ sp ⋯ nstring ⋯ closing) (now (s .entry)) at r (now (t .entry)) (now (t .exit)) ⌝ }
 {
@@ -24,7 +24,7 @@ pub fn address_fields(s: &[u8], at: usize, t: &mut [u32]) -> Step
 }
 
 // address = "(" addr-name SP addr-adl SP addr-mailbox SP addr-host ")"
-pub fn address(s: &[u8], at: usize, t: &mut [u32]) -> Step
+fn address(s: &[u8], at: usize, t: &mut [u32]) -> Step
     requires { ⌜ Room (now s) at ⌝ }
     ensures { λ r. ⌜ Does 0 address (now (s .entry)) at r (now (t .entry)) (now (t .exit)) ⌝ }
 {
@@ -34,7 +34,7 @@ pub fn address(s: &[u8], at: usize, t: &mut [u32]) -> Step
 }
 
 // An address, and at most one space after it.
-pub fn address_space(s: &[u8], at: usize, t: &mut [u32]) -> Step
+fn address_space(s: &[u8], at: usize, t: &mut [u32]) -> Step
     requires { ⌜ Room (now s) at ⌝ }
     ensures { λ r. ⌜ Does 0 (address ⋯ skip-opt sp) (now (s .entry)) at r (now (t .entry)) (now (t .exit)) ⌝ }
 {
@@ -43,7 +43,7 @@ pub fn address_space(s: &[u8], at: usize, t: &mut [u32]) -> Step
 }
 
 // 1*address
-pub fn addresses(s: &[u8], at: usize, t: &mut [u32]) -> Step
+fn addresses(s: &[u8], at: usize, t: &mut [u32]) -> Step
     requires { ⌜ Room (now s) at ⌝ }
     ensures { λ r. ⌜ Does 0 (many1 (address ⋯ skip-opt sp)) (now (s .entry)) at r (now (t .entry)) (now (t .exit)) ⌝ }
 {
@@ -75,7 +75,7 @@ pub fn addresses(s: &[u8], at: usize, t: &mut [u32]) -> Step
     }
 }
 
-pub fn then_addresses(s: &[u8], r: Step, t: &mut [u32]) -> Step
+fn then_addresses(s: &[u8], r: Step, t: &mut [u32]) -> Step
     requires { ⌜ RoomAfter (now s) r ⌝ }
     ensures { λ q. ⌜ Goes 0 (many1 (address ⋯ skip-opt sp)) (now (s .entry)) r q (now (t .entry)) (now (t .exit)) ⌝ }
 {
@@ -88,7 +88,7 @@ pub fn then_addresses(s: &[u8], r: Step, t: &mut [u32]) -> Step
 }
 
 // "(" 1*address ")"
-pub fn some_addresses(s: &[u8], at: usize, t: &mut [u32]) -> Step
+fn some_addresses(s: &[u8], at: usize, t: &mut [u32]) -> Step
     requires { ⌜ Room (now s) at ⌝ }
     ensures { λ r. ⌜ Does 0 (paren-delimited (many1 (address ⋯ skip-opt sp))) (now (s .entry)) at r (now (t .entry)) (now (t .exit)) ⌝ }
 {
@@ -98,7 +98,7 @@ pub fn some_addresses(s: &[u8], at: usize, t: &mut [u32]) -> Step
 }
 
 // "(" 1*address ")" / nil
-pub fn opt_addresses(s: &[u8], at: usize, t: &mut [u32]) -> Step
+fn opt_addresses(s: &[u8], at: usize, t: &mut [u32]) -> Step
     requires { ⌜ Room (now s) at ⌝ }
     ensures { λ r. ⌜ Does 0 opt-addresses (now (s .entry)) at r (now (t .entry)) (now (t .exit)) ⌝ }
 {
@@ -109,7 +109,7 @@ pub fn opt_addresses(s: &[u8], at: usize, t: &mut [u32]) -> Step
     some_addresses(s, at, t)
 }
 
-pub fn then_opt_addresses(s: &[u8], r: Step, t: &mut [u32]) -> Step
+fn then_opt_addresses(s: &[u8], r: Step, t: &mut [u32]) -> Step
     requires { ⌜ RoomAfter (now s) r ⌝ }
     ensures { λ q. ⌜ Goes 0 opt-addresses (now (s .entry)) r q (now (t .entry)) (now (t .exit)) ⌝ }
 {
@@ -122,7 +122,7 @@ pub fn then_opt_addresses(s: &[u8], r: Step, t: &mut [u32]) -> Step
 }
 
 // env-date SP env-subject SP env-from SP env-sender
-pub fn env_origin(s: &[u8], at: usize, t: &mut [u32]) -> Step
+fn env_origin(s: &[u8], at: usize, t: &mut [u32]) -> Step
     requires { ⌜ Room (now s) at ⌝ }
     ensures { λ r. ⌜ Does 0 env-origin (now (s .entry)) at r (now (t .entry)) (now (t .exit)) ⌝ }
 {
@@ -135,7 +135,7 @@ pub fn env_origin(s: &[u8], at: usize, t: &mut [u32]) -> Step
     then_opt_addresses(s, r, t)
 }
 
-pub fn then_env_origin(s: &[u8], r: Step, t: &mut [u32]) -> Step
+fn then_env_origin(s: &[u8], r: Step, t: &mut [u32]) -> Step
     requires { ⌜ RoomAfter (now s) r ⌝ }
     ensures { λ q. ⌜ Goes 0 env-origin (now (s .entry)) r q (now (t .entry)) (now (t .exit)) ⌝ }
 {
@@ -148,7 +148,7 @@ pub fn then_env_origin(s: &[u8], r: Step, t: &mut [u32]) -> Step
 }
 
 // env-reply-to SP env-to SP env-cc SP env-bcc
-pub fn env_recipients(s: &[u8], at: usize, t: &mut [u32]) -> Step
+fn env_recipients(s: &[u8], at: usize, t: &mut [u32]) -> Step
     requires { ⌜ Room (now s) at ⌝ }
     ensures { λ r. ⌜ Does 0 env-recipients (now (s .entry)) at r (now (t .entry)) (now (t .exit)) ⌝ }
 {
@@ -161,7 +161,7 @@ pub fn env_recipients(s: &[u8], at: usize, t: &mut [u32]) -> Step
     then_opt_addresses(s, r, t)
 }
 
-pub fn then_env_recipients(s: &[u8], r: Step, t: &mut [u32]) -> Step
+fn then_env_recipients(s: &[u8], r: Step, t: &mut [u32]) -> Step
     requires { ⌜ RoomAfter (now s) r ⌝ }
     ensures { λ q. ⌜ Goes 0 env-recipients (now (s .entry)) r q (now (t .entry)) (now (t .exit)) ⌝ }
 {
@@ -174,7 +174,7 @@ pub fn then_env_recipients(s: &[u8], r: Step, t: &mut [u32]) -> Step
 }
 
 // env-in-reply-to SP env-message-id
-pub fn env_references(s: &[u8], at: usize, t: &mut [u32]) -> Step
+fn env_references(s: &[u8], at: usize, t: &mut [u32]) -> Step
     requires { ⌜ Room (now s) at ⌝ }
     ensures { λ r. ⌜ Does 0 env-references (now (s .entry)) at r (now (t .entry)) (now (t .exit)) ⌝ }
 {
@@ -183,7 +183,7 @@ pub fn env_references(s: &[u8], at: usize, t: &mut [u32]) -> Step
     lists::then_nstring(s, r, t)
 }
 
-pub fn then_env_references(s: &[u8], r: Step, t: &mut [u32]) -> Step
+fn then_env_references(s: &[u8], r: Step, t: &mut [u32]) -> Step
     requires { ⌜ RoomAfter (now s) r ⌝ }
     ensures { λ q. ⌜ Goes 0 env-references (now (s .entry)) r q (now (t .entry)) (now (t .exit)) ⌝ }
 {
@@ -196,7 +196,7 @@ pub fn then_env_references(s: &[u8], r: Step, t: &mut [u32]) -> Step
 }
 
 // The ten fields, in parentheses.
-pub fn envelope_fields(s: &[u8], at: usize, t: &mut [u32]) -> Step
+fn envelope_fields(s: &[u8], at: usize, t: &mut [u32]) -> Step
     requires { ⌜ Room (now s) at ⌝ }
     ensures { λ r. ⌜ Does 0 (opening ⋯ env-origin ⋯ sp ⋯ env-recipients ⋯ sp ⋯ env-references ⋯ closing) (now (s .entry)) at r (now (t .entry)) (now (t .exit)) ⌝ }
 {

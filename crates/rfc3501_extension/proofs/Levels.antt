@@ -5,7 +5,7 @@ use mathlib.Core.List.{List, [], _∷_}
 use native.Mathlib.Omega.{arith}
 use lib.Dec.{T}
 use Rattle.grammar.specs.Text.{ascii}
-use Rattle.grammar.specs.Out.{Out, took, more, refused, deep, then}
+use Rattle.grammar.specs.Out.{Out, took, more, refused, deep, followed-by}
 use Rattle.grammar.specs.Scan.{tag, leaf-at}
 use Rattle.grammar.specs.Grammar.{G, leaf, seq, alt, ref, Inner, run}
 use Rattle.grammar.specs.BodyStructure.{grammar}

@@ -1,1 +1,2 @@
 pub mod Deepest
+pub mod Tails

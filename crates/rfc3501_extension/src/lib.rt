@@ -3,10 +3,11 @@
 
 use table::Step;
 ghost use mathlib.Core.Path.{_≡_};
-ghost use Rattle.grammar.specs.Notation.{_⋯_, _∣_, sp, absent, separated-list1};
+ghost use Rattle.grammar.specs.Notation.{_⋯_, _or_, sp, absent, separated-list1};
 ghost use Rattle.grammar.specs.Core.{nstring};
-ghost use Rattle.grammar.specs.BodyStructure.{body-extension, extension-list, body-param, body-disposition, body-lang, from-extension, from-loc, from-lang, from-dsp, body-ext-1part, body-ext-mpart};
+ghost use Rattle.grammar.specs.BodyStructure.{body-extension, extension-list, body-param, body-disposition, body-lang, body-ext-1part, body-ext-mpart};
 ghost use Rattle.rfc3501_extension.specs.Deepest.{Deepest};
+ghost use Rattle.rfc3501_extension.specs.Tails.{from-extension, from-loc, from-lang, from-dsp};
 ghost use Rattle.table.specs.Promise.{Room, RoomAfter, Does, Goes, Skims, SkimsOn};
 
 // Where no level is left: a `(` is too deep, another byte fails.
@@ -22,7 +23,7 @@ pub fn too_deep(s: &[u8], at: usize) -> Step
 }
 
 // body-extension = number / nstring / "(" body-extension *(SP body-extension) ")"
-pub fn extension(s: &[u8], at: usize, t: &mut [u32], left: usize) -> Step
+fn extension(s: &[u8], at: usize, t: &mut [u32], left: usize) -> Step
     requires { ⌜ Room (now s) at ⌝ }
     ensures { λ r. ⌜ Does left body-extension (now (s .entry)) at r (now (t .entry)) (now (t .exit)) ⌝ }
 {
@@ -41,7 +42,7 @@ pub fn extension(s: &[u8], at: usize, t: &mut [u32], left: usize) -> Step
 }
 
 // "(" body-extension *(SP body-extension) ")"
-pub fn extension_list(s: &[u8], at: usize, t: &mut [u32], left: usize) -> Step
+fn extension_list(s: &[u8], at: usize, t: &mut [u32], left: usize) -> Step
     requires { ⌜ Room (now s) at ⌝ }
     ensures { λ r. ⌜ Does left extension-list (now (s .entry)) at r (now (t .entry)) (now (t .exit)) ⌝ }
 {
@@ -55,7 +56,7 @@ pub fn extension_list(s: &[u8], at: usize, t: &mut [u32], left: usize) -> Step
 }
 
 // body-extension *(SP body-extension)
-pub fn extensions(s: &[u8], at: usize, t: &mut [u32], left: usize) -> Step
+fn extensions(s: &[u8], at: usize, t: &mut [u32], left: usize) -> Step
     requires { ⌜ Room (now s) at ⌝ }
     ensures { λ r. ⌜ Does left (separated-list1 sp body-extension) (now (s .entry)) at r (now (t .entry)) (now (t .exit)) ⌝ }
 {
@@ -88,7 +89,7 @@ pub fn extensions(s: &[u8], at: usize, t: &mut [u32], left: usize) -> Step
 }
 
 // SP body-extension
-pub fn sp_extension(s: &[u8], at: usize, t: &mut [u32], left: usize) -> Step
+fn sp_extension(s: &[u8], at: usize, t: &mut [u32], left: usize) -> Step
     requires { ⌜ Room (now s) at ⌝ }
     ensures { λ r. ⌜ Does left (sp ⋯ body-extension) (now (s .entry)) at r (now (t .entry)) (now (t .exit)) ⌝ }
 {
@@ -102,7 +103,7 @@ pub fn sp_extension(s: &[u8], at: usize, t: &mut [u32], left: usize) -> Step
 // ----- tails: each field after a space, and only if the one before was read -----
 
 // [SP body-extension]
-pub fn from_extension(s: &[u8], at: usize, t: &mut [u32], left: usize) -> Step
+fn from_extension(s: &[u8], at: usize, t: &mut [u32], left: usize) -> Step
     requires { ⌜ Room (now s) at ⌝ }
     ensures { λ r. ⌜ Does left from-extension (now (s .entry)) at r (now (t .entry)) (now (t .exit)) ⌝ }
 {
@@ -113,7 +114,7 @@ pub fn from_extension(s: &[u8], at: usize, t: &mut [u32], left: usize) -> Step
     table::mark(t, at, grammar::KIND_ABSENT, 0)
 }
 
-pub fn then_from_extension(s: &[u8], r: Step, t: &mut [u32], left: usize) -> Step
+fn then_from_extension(s: &[u8], r: Step, t: &mut [u32], left: usize) -> Step
     requires { ⌜ RoomAfter (now s) r ⌝ }
     ensures { λ q. ⌜ Goes left from-extension (now (s .entry)) r q (now (t .entry)) (now (t .exit)) ⌝ }
 {
@@ -126,7 +127,7 @@ pub fn then_from_extension(s: &[u8], r: Step, t: &mut [u32], left: usize) -> Ste
 }
 
 // SP body-fld-loc [SP body-extension]
-pub fn loc_tail(s: &[u8], at: usize, t: &mut [u32], left: usize) -> Step
+fn loc_tail(s: &[u8], at: usize, t: &mut [u32], left: usize) -> Step
     requires { ⌜ Room (now s) at ⌝ }
     ensures { λ r. ⌜ Does left (sp ⋯ nstring ⋯ from-extension) (now (s .entry)) at r (now (t .entry)) (now (t .exit)) ⌝ }
 {
@@ -136,7 +137,7 @@ pub fn loc_tail(s: &[u8], at: usize, t: &mut [u32], left: usize) -> Step
 }
 
 // [SP body-fld-loc [SP body-extension]]
-pub fn from_loc(s: &[u8], at: usize, t: &mut [u32], left: usize) -> Step
+fn from_loc(s: &[u8], at: usize, t: &mut [u32], left: usize) -> Step
     requires { ⌜ Room (now s) at ⌝ }
     ensures { λ r. ⌜ Does left from-loc (now (s .entry)) at r (now (t .entry)) (now (t .exit)) ⌝ }
 {
@@ -147,7 +148,7 @@ pub fn from_loc(s: &[u8], at: usize, t: &mut [u32], left: usize) -> Step
     rfc3501_body_fields::absent_2(s, at, t)
 }
 
-pub fn then_from_loc(s: &[u8], r: Step, t: &mut [u32], left: usize) -> Step
+fn then_from_loc(s: &[u8], r: Step, t: &mut [u32], left: usize) -> Step
     requires { ⌜ RoomAfter (now s) r ⌝ }
     ensures { λ q. ⌜ Goes left from-loc (now (s .entry)) r q (now (t .entry)) (now (t .exit)) ⌝ }
 {
@@ -160,7 +161,7 @@ pub fn then_from_loc(s: &[u8], r: Step, t: &mut [u32], left: usize) -> Step
 }
 
 // SP body-fld-lang ..
-pub fn lang_tail(s: &[u8], at: usize, t: &mut [u32], left: usize) -> Step
+fn lang_tail(s: &[u8], at: usize, t: &mut [u32], left: usize) -> Step
     requires { ⌜ Room (now s) at ⌝ }
     ensures { λ r. ⌜ Does left (sp ⋯ body-lang ⋯ from-loc) (now (s .entry)) at r (now (t .entry)) (now (t .exit)) ⌝ }
 {
@@ -170,7 +171,7 @@ pub fn lang_tail(s: &[u8], at: usize, t: &mut [u32], left: usize) -> Step
 }
 
 // [SP body-fld-lang ..]
-pub fn from_lang(s: &[u8], at: usize, t: &mut [u32], left: usize) -> Step
+fn from_lang(s: &[u8], at: usize, t: &mut [u32], left: usize) -> Step
     requires { ⌜ Room (now s) at ⌝ }
     ensures { λ r. ⌜ Does left from-lang (now (s .entry)) at r (now (t .entry)) (now (t .exit)) ⌝ }
 {
@@ -181,7 +182,7 @@ pub fn from_lang(s: &[u8], at: usize, t: &mut [u32], left: usize) -> Step
     rfc3501_body_fields::absent_3(s, at, t)
 }
 
-pub fn then_from_lang(s: &[u8], r: Step, t: &mut [u32], left: usize) -> Step
+fn then_from_lang(s: &[u8], r: Step, t: &mut [u32], left: usize) -> Step
     requires { ⌜ RoomAfter (now s) r ⌝ }
     ensures { λ q. ⌜ Goes left from-lang (now (s .entry)) r q (now (t .entry)) (now (t .exit)) ⌝ }
 {
@@ -194,7 +195,7 @@ pub fn then_from_lang(s: &[u8], r: Step, t: &mut [u32], left: usize) -> Step
 }
 
 // SP body-fld-dsp ..
-pub fn dsp_tail(s: &[u8], at: usize, t: &mut [u32], left: usize) -> Step
+fn dsp_tail(s: &[u8], at: usize, t: &mut [u32], left: usize) -> Step
     requires { ⌜ Room (now s) at ⌝ }
     ensures { λ r. ⌜ Does left (sp ⋯ body-disposition ⋯ from-lang) (now (s .entry)) at r (now (t .entry)) (now (t .exit)) ⌝ }
 {
@@ -204,7 +205,7 @@ pub fn dsp_tail(s: &[u8], at: usize, t: &mut [u32], left: usize) -> Step
 }
 
 // [SP body-fld-dsp ..]
-pub fn from_dsp(s: &[u8], at: usize, t: &mut [u32], left: usize) -> Step
+fn from_dsp(s: &[u8], at: usize, t: &mut [u32], left: usize) -> Step
     requires { ⌜ Room (now s) at ⌝ }
     ensures { λ r. ⌜ Does left from-dsp (now (s .entry)) at r (now (t .entry)) (now (t .exit)) ⌝ }
 {
@@ -215,7 +216,7 @@ pub fn from_dsp(s: &[u8], at: usize, t: &mut [u32], left: usize) -> Step
     rfc3501_body_fields::absent_4(s, at, t)
 }
 
-pub fn then_from_dsp(s: &[u8], r: Step, t: &mut [u32], left: usize) -> Step
+fn then_from_dsp(s: &[u8], r: Step, t: &mut [u32], left: usize) -> Step
     requires { ⌜ RoomAfter (now s) r ⌝ }
     ensures { λ q. ⌜ Goes left from-dsp (now (s .entry)) r q (now (t .entry)) (now (t .exit)) ⌝ }
 {
@@ -228,7 +229,7 @@ pub fn then_from_dsp(s: &[u8], r: Step, t: &mut [u32], left: usize) -> Step
 }
 
 // SP body-fld-md5 ..
-pub fn md5_tail(s: &[u8], at: usize, t: &mut [u32], left: usize) -> Step
+fn md5_tail(s: &[u8], at: usize, t: &mut [u32], left: usize) -> Step
     requires { ⌜ Room (now s) at ⌝ }
     ensures { λ r. ⌜ Does left (sp ⋯ nstring ⋯ from-dsp) (now (s .entry)) at r (now (t .entry)) (now (t .exit)) ⌝ }
 {
@@ -238,7 +239,7 @@ pub fn md5_tail(s: &[u8], at: usize, t: &mut [u32], left: usize) -> Step
 }
 
 // [SP body-ext-1part]
-pub fn body_ext_1part(s: &[u8], at: usize, t: &mut [u32], left: usize) -> Step
+fn body_ext_1part(s: &[u8], at: usize, t: &mut [u32], left: usize) -> Step
     requires { ⌜ Room (now s) at ⌝ }
     ensures { λ r. ⌜ Does left body-ext-1part (now (s .entry)) at r (now (t .entry)) (now (t .exit)) ⌝ }
 {
@@ -262,7 +263,7 @@ pub fn then_body_ext_1part(s: &[u8], r: Step, t: &mut [u32], left: usize) -> Ste
 }
 
 // SP body-fld-param ..
-pub fn param_tail(s: &[u8], at: usize, t: &mut [u32], left: usize) -> Step
+fn param_tail(s: &[u8], at: usize, t: &mut [u32], left: usize) -> Step
     requires { ⌜ Room (now s) at ⌝ }
     ensures { λ r. ⌜ Does left (sp ⋯ body-param ⋯ from-dsp) (now (s .entry)) at r (now (t .entry)) (now (t .exit)) ⌝ }
 {
@@ -272,7 +273,7 @@ pub fn param_tail(s: &[u8], at: usize, t: &mut [u32], left: usize) -> Step
 }
 
 // [SP body-ext-mpart]
-pub fn body_ext_mpart(s: &[u8], at: usize, t: &mut [u32], left: usize) -> Step
+fn body_ext_mpart(s: &[u8], at: usize, t: &mut [u32], left: usize) -> Step
     requires { ⌜ Room (now s) at ⌝ }
     ensures { λ r. ⌜ Does left body-ext-mpart (now (s .entry)) at r (now (t .entry)) (now (t .exit)) ⌝ }
 {

@@ -5,7 +5,7 @@ use mathlib.Core.List.{List}
 use borrow.Author.Tests.{le-leb, lt-leb}
 use Rattle.grammar.specs.Kinds.{kind-range, kind-uid}
 use Rattle.grammar.specs.Forest.{size}
-use Rattle.grammar.specs.Out.{took, then}
+use Rattle.grammar.specs.Out.{took, followed-by}
 use Rattle.grammar.specs.Grammar.{uid-range, act}
 use Rattle.grammar.specs.Rfc4315.{uid-set-member}
 use Rattle.table.specs.declared.Step.{Step}
@@ -19,8 +19,8 @@ use Rattle.lists.specs.declared.Member.the-variants.{One, Two, Short, Wrong}
 use Rattle.lists.proofs.Members.{member-is}
 
 uid-is : {s : List ℕ} {at : ℕ} {n : Member} {r : Step} {t t′ : List ℕ} → Numbered s at n
-    → r ≡ as-step (then (numbers-out n) (λ end f. took end (act uid-range at end f)))
-    → t′ ≡ lay (then (numbers-out n) (λ end f. took end (act uid-range at end f))) t → Does 0 uid-set-member s at r t t′
+    → r ≡ as-step (followed-by (numbers-out n) (λ end f. took end (act uid-range at end f)))
+    → t′ ≡ lay (followed-by (numbers-out n) (λ end f. took end (act uid-range at end f))) t → Does 0 uid-set-member s at r t t′
 unfolding act-table uid-set-member
 uid-is w p q = member-is w (λ o below. refl) p q
 

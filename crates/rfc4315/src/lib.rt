@@ -2,13 +2,13 @@
 
 use lists::Member;
 use table::Step;
-ghost use Rattle.grammar.specs.Notation.{_⋯_, _∣_, exact, any-case, sp, space0, space1, opt, absent, skip-opt, opening, closing, separated-list1, separated-list0, many1, parenthesized-list, parenthesized-nonempty-list};
+ghost use Rattle.grammar.specs.Notation.{_⋯_, _or_, exact, any-case, sp, space0, space1, opt, absent, skip-opt, opening, closing, separated-list1, separated-list0, many1, parenthesized-list, parenthesized-nonempty-list};
 ghost use Rattle.grammar.specs.Core.{number};
 ghost use Rattle.grammar.specs.Rfc4315.{uid-set-member, uid-set, resp-text-code-append-uid, resp-text-code-copy-uid, resp-text-code-uid-not-sticky};
 ghost use Rattle.table.specs.Promise.{Room, RoomAfter, Does, Goes, Skims, SkimsOn};
 
 // uniqueid / uid-range: 2:4 and 4:2 are equivalent, the smaller number comes first
-pub fn uid_set_member(s: &[u8], at: usize, t: &mut [u32]) -> Step
+fn uid_set_member(s: &[u8], at: usize, t: &mut [u32]) -> Step
     requires { ⌜ Room (now s) at ⌝ }
     ensures { λ r. ⌜ Does 0 uid-set-member (now (s .entry)) at r (now (t .entry)) (now (t .exit)) ⌝ }
 {
@@ -31,7 +31,7 @@ pub fn uid_set_member(s: &[u8], at: usize, t: &mut [u32]) -> Step
     }
 }
 
-pub fn then_uid_set_member(s: &[u8], r: Step, t: &mut [u32]) -> Step
+fn then_uid_set_member(s: &[u8], r: Step, t: &mut [u32]) -> Step
     requires { ⌜ RoomAfter (now s) r ⌝ }
     ensures { λ q. ⌜ Goes 0 uid-set-member (now (s .entry)) r q (now (t .entry)) (now (t .exit)) ⌝ }
 {
@@ -44,7 +44,7 @@ pub fn then_uid_set_member(s: &[u8], r: Step, t: &mut [u32]) -> Step
 }
 
 // "," uid-set-member
-pub fn comma_member(s: &[u8], at: usize, t: &mut [u32]) -> Step
+fn comma_member(s: &[u8], at: usize, t: &mut [u32]) -> Step
     requires { ⌜ Room (now s) at ⌝ }
     ensures { λ r. ⌜ Does 0 (exact "," ⋯ uid-set-member) (now (s .entry)) at r (now (t .entry)) (now (t .exit)) ⌝ }
 {
@@ -85,7 +85,7 @@ pub fn uid_set(s: &[u8], at: usize, t: &mut [u32]) -> Step
     }
 }
 
-pub fn then_uid_set(s: &[u8], r: Step, t: &mut [u32]) -> Step
+fn then_uid_set(s: &[u8], r: Step, t: &mut [u32]) -> Step
     requires { ⌜ RoomAfter (now s) r ⌝ }
     ensures { λ q. ⌜ Goes 0 uid-set (now (s .entry)) r q (now (t .entry)) (now (t .exit)) ⌝ }
 {
@@ -98,7 +98,7 @@ pub fn then_uid_set(s: &[u8], r: Step, t: &mut [u32]) -> Step
 }
 
 // "APPENDUID" SP nz-number SP append-uid
-pub fn append_uid_fields(s: &[u8], at: usize, t: &mut [u32]) -> Step
+fn append_uid_fields(s: &[u8], at: usize, t: &mut [u32]) -> Step
     requires { ⌜ Room (now s) at ⌝ }
     ensures { λ r. ⌜ Does 0 (any-case "APPENDUID " ⋯ number ⋯ sp ⋯ uid-set) (now (s .entry)) at r (now (t .entry)) (now (t .exit)) ⌝ }
 {
@@ -119,7 +119,7 @@ pub fn resp_text_code_append_uid(s: &[u8], at: usize, t: &mut [u32]) -> Step
 }
 
 // "COPYUID" SP nz-number SP uid-set SP uid-set
-pub fn copy_uid_fields(s: &[u8], at: usize, t: &mut [u32]) -> Step
+fn copy_uid_fields(s: &[u8], at: usize, t: &mut [u32]) -> Step
     requires { ⌜ Room (now s) at ⌝ }
     ensures { λ r. ⌜ Does 0 (any-case "COPYUID " ⋯ number ⋯ sp ⋯ uid-set ⋯ sp ⋯ uid-set) (now (s .entry)) at r (now (t .entry)) (now (t .exit)) ⌝ }
 {

@@ -1,7 +1,7 @@
 //! Mod-sequences: imap-proto 0.17.0's src/rfc4551.rs, without STATUS.
 
 use table::Step;
-ghost use Rattle.grammar.specs.Notation.{_⋯_, _∣_, exact, any-case, sp, space0, space1, opt, absent, skip-opt, opening, closing, separated-list1, separated-list0, many1, parenthesized-list, parenthesized-nonempty-list};
+ghost use Rattle.grammar.specs.Notation.{_⋯_, _or_, exact, any-case, sp, space0, space1, opt, absent, skip-opt, opening, closing, separated-list1, separated-list0, many1, parenthesized-list, parenthesized-nonempty-list};
 ghost use Rattle.grammar.specs.Rfc4551.{resp-text-code-highest-mod-seq, msg-att-mod-seq};
 ghost use Rattle.table.specs.Promise.{Room, RoomAfter, Does, Goes, Skims, SkimsOn};
 

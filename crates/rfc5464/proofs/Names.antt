@@ -11,7 +11,7 @@ use lib.Seq.{drop-cons, drop-drop}
 use lib.Dec.{eqb}
 use borrow.Author.Tests.{lt-ltb, eq-eqb, ne-eqb}
 use Rattle.grammar.specs.Text.{ascii}
-use Rattle.grammar.specs.Out.{pick}
+use Rattle.grammar.specs.Out.{branch}
 use Rattle.grammar.specs.EntryName.{after-word, is-entry-component-char, check-path, check-vendor}
 use Rattle.grammar.specs.EntryName.{check-vendor-comment, check-admin, check-entry-name}
 use Rattle.rfc5464.specs.declared.EntryParseStage.{EntryParseStage}
@@ -43,15 +43,15 @@ component-last b h l p q = rw (lt-ltb b 0x80 h, lt-ltb 0x19 b l, ne-eqb b (code 
 
 -- the definition's word in front of a name, as a test
 pub after-begins : (word name : List ℕ) (then′ : List ℕ → Bool) (else′ : Unit {0} → Bool)
-    → after-word word name then′ else′ ≡ pick (begins word name) (λ u. then′ (drop (length word) name)) else′
+    → after-word word name then′ else′ ≡ branch (begins word name) (λ u. then′ (drop (length word) name)) else′
 unfolding after-word begins
 after-begins [] name then′ else′ = refl
 after-begins (c ∷ word) [] then′ else′ = refl
 after-begins (c ∷ word) (b ∷ name) then′ else′ = go (eqb b c) (after-begins word name then′ else′)
   where
-    go : (t : Bool) → after-word word name then′ else′ ≡ pick (begins word name) (λ u. then′ (drop (length word) name)) else′
-        → pick t (λ u. after-word word name then′ else′) else′
-        ≡ pick (t && begins word name) (λ u. then′ (drop (length word) name)) else′
+    go : (t : Bool) → after-word word name then′ else′ ≡ branch (begins word name) (λ u. then′ (drop (length word) name)) else′
+        → branch t (λ u. after-word word name then′ else′) else′
+        ≡ branch (t && begins word name) (λ u. then′ (drop (length word) name)) else′
     go true ih = ih
     go false ih = refl
 
@@ -160,30 +160,30 @@ behind f name l n = ap f (drop-drop n l name)
 -- the definition's stages, one word at a time
 entry-name-is : (name : List ℕ)
     → check-entry-name name
-    ≡ pick (begins (ascii "/private") name)
+    ≡ branch (begins (ascii "/private") name)
     (λ u. check-vendor-comment (drop 8 name))
-    (λ u. pick (begins (ascii "/shared") name) (λ u. check-admin (drop 7 name)) (λ u. false))
+    (λ u. branch (begins (ascii "/shared") name) (λ u. check-admin (drop 7 name)) (λ u. false))
 unfolding check-entry-name
 entry-name-is name =
     after-begins (ascii "/private") name check-vendor-comment _
-    ∙ ap (λ (x : Bool). pick (begins (ascii "/private") name) (λ u. check-vendor-comment (drop 8 name)) (λ u. x))
+    ∙ ap (λ (x : Bool). branch (begins (ascii "/private") name) (λ u. check-vendor-comment (drop 8 name)) (λ u. x))
     (after-begins (ascii "/shared") name check-admin (λ u. false))
 
 admin-is : (name : List ℕ)
     → check-admin name
-    ≡ pick (begins (ascii "/admin") name) (λ u. check-path false (drop 6 name)) (λ u. check-vendor-comment name)
+    ≡ branch (begins (ascii "/admin") name) (λ u. check-path false (drop 6 name)) (λ u. check-vendor-comment name)
 unfolding check-admin
 admin-is name = after-begins (ascii "/admin") name (check-path false) _
 
 vendor-comment-is : (name : List ℕ)
     → check-vendor-comment name
-    ≡ pick (begins (ascii "/comment") name)
+    ≡ branch (begins (ascii "/comment") name)
     (λ u. check-path false (drop 8 name))
-    (λ u. pick (begins (ascii "/vendor") name) (λ u. check-vendor (drop 7 name)) (λ u. false))
+    (λ u. branch (begins (ascii "/vendor") name) (λ u. check-vendor (drop 7 name)) (λ u. false))
 unfolding check-vendor-comment
 vendor-comment-is name =
     after-begins (ascii "/comment") name (check-path false) _
-    ∙ ap (λ (x : Bool). pick (begins (ascii "/comment") name) (λ u. check-path false (drop 8 name)) (λ u. x))
+    ∙ ap (λ (x : Bool). branch (begins (ascii "/comment") name) (λ u. check-path false (drop 8 name)) (λ u. x))
     (after-begins (ascii "/vendor") name check-vendor (λ u. false))
 
 private-follows : (name : List ℕ) → Follows name (check-entry-name name) (length name + 4) (private-shared-stage name)
@@ -193,9 +193,9 @@ private-follows name =
   where
     go : (p q : Bool) → (p ≡ true → 8 ≤ length name) → (q ≡ true → 7 ≤ length name)
         → check-entry-name name
-        ≡ pick p (λ u. check-vendor-comment (drop 8 name)) (λ u. pick q (λ u. check-admin (drop 7 name)) (λ u. false))
+        ≡ branch p (λ u. check-vendor-comment (drop 8 name)) (λ u. branch q (λ u. check-admin (drop 7 name)) (λ u. false))
         → Follows name (check-entry-name name) (length name + 4)
-        (pick p (λ u. VendorComment 8) (λ u. pick q (λ u. Admin 7) (λ u. Fail)))
+        (branch p (λ u. VendorComment 8) (λ u. branch q (λ u. Admin 7) (λ u. Fail)))
     go true q a b e = record { inside = a refl; less = omega arith; same = sym e }
     go false true a b e = record { inside = b refl; less = omega arith; same = sym e }
     go false false a b e = record { inside = tt; less = omega arith; same = sym e }
@@ -207,8 +207,8 @@ admin-follows name l h =
   where
     go : (p : Bool) → (p ≡ true → l + 6 ≤ length name)
         → check-admin (drop l name)
-        ≡ pick p (λ u. check-path false (drop 6 (drop l name))) (λ u. check-vendor-comment (drop l name))
-        → Follows name (check-admin (drop l name)) (length name + 3) (pick p (λ u. Path (l + 6)) (λ u. VendorComment l))
+        ≡ branch p (λ u. check-path false (drop 6 (drop l name))) (λ u. check-vendor-comment (drop l name))
+        → Follows name (check-admin (drop l name)) (length name + 3) (branch p (λ u. Path (l + 6)) (λ u. VendorComment l))
     go true a e = record { inside = a refl; less = omega arith; same = sym (e ∙ behind (check-path false) name l 6) }
     go false a e = record { inside = h; less = omega arith; same = sym e }
 
@@ -221,8 +221,8 @@ vendor-follows name l h (b ∷ []) e = record { inside = tt; less = omega arith;
 vendor-follows name l h (b ∷ c ∷ rest) e = go (eqb b (code "/") && is-entry-component-char c)
   where
     go : (p : Bool)
-        → Follows name (pick p (λ u. check-path false (b ∷ c ∷ rest)) (λ u. false)) (length name + 2)
-        (pick p (λ u. Path l) (λ u. Fail))
+        → Follows name (branch p (λ u. check-path false (b ∷ c ∷ rest)) (λ u. false)) (length name + 2)
+        (branch p (λ u. Path l) (λ u. Fail))
     go true = record { inside = h; less = omega arith; same = ap (check-path false) e }
     go false = record { inside = tt; less = omega arith; same = refl }
 
@@ -235,13 +235,13 @@ vendor-comment-follows name l h =
   where
     go : (p q : Bool) → (p ≡ true → l + 8 ≤ length name) → (q ≡ true → l + 7 ≤ length name)
         → check-vendor-comment (drop l name)
-        ≡ pick p
+        ≡ branch p
         (λ u. check-path false (drop 8 (drop l name)))
-        (λ u. pick q (λ u. check-vendor (drop 7 (drop l name))) (λ u. false))
+        (λ u. branch q (λ u. check-vendor (drop 7 (drop l name))) (λ u. false))
         → (l + 7 ≤ length name
         → Follows name (check-vendor (drop (l + 7) name)) (length name + 2) (vendor-stage (drop (l + 7) name) (l + 7)))
         → Follows name (check-vendor-comment (drop l name)) (length name + 2)
-        (pick p (λ u. Path (l + 8)) (λ u. pick q (λ u. vendor-stage (drop (l + 7) name) (l + 7)) (λ u. Fail)))
+        (branch p (λ u. Path (l + 8)) (λ u. branch q (λ u. vendor-stage (drop (l + 7) name) (l + 7)) (λ u. Fail)))
     go true q a b e v = record { inside = a refl; less = omega arith; same = sym (e ∙ behind (check-path false) name l 8) }
     go false true a b e v =
         let f = v (b refl) in
@@ -260,7 +260,7 @@ component-follows name l h (b ∷ rest) e =
     go : (t : Bool) → is-entry-component-char b ≡ t → suc l ≤ length name
         → Follows name (check-path true rest) (length name - suc l + 2) (component-stage rest (suc l))
         → Follows name (check-path true (b ∷ rest)) (length name - l + 2)
-        (pick t (λ u. component-stage rest (suc l)) (λ u. Path l))
+        (branch t (λ u. component-stage rest (suc l)) (λ u. Path l))
     go true p i f = record { inside = f .inside; less = omega (arith, f .less); same = f .same ∙ sym (rw p) }
     go false p i f = record { inside = h; less = omega arith; same = ap (check-path false) e ∙ sym (rw p) }
 
@@ -276,8 +276,8 @@ path-follows name l h (b ∷ rest) e =
   where
     go : (p q : Bool) → suc l ≤ length name
         → Follows name (check-path true rest) (length name - suc l + 2) (component-stage rest (suc l))
-        → Follows name (pick p (λ u. true) (λ u. pick q (λ u. check-path true rest) (λ u. false))) (length name - l + 1)
-        (pick p (λ u. Done) (λ u. pick q (λ u. component-stage rest (suc l)) (λ u. Fail)))
+        → Follows name (branch p (λ u. true) (λ u. branch q (λ u. check-path true rest) (λ u. false))) (length name - l + 1)
+        (branch p (λ u. Done) (λ u. branch q (λ u. component-stage rest (suc l)) (λ u. Fail)))
     go true q i f = record { inside = tt; less = omega arith; same = refl }
     go false true i f = record { inside = f .inside; less = omega (arith, f .less); same = f .same }
     go false false i f = record { inside = tt; less = omega arith; same = refl }
@@ -339,7 +339,7 @@ module _ {name : List ℕ} {stage : EntryParseStage} (inv : Checking name stage)
 -- the two bytes there
 vendor-here : (name : List ℕ) (l : ℕ) → l + 1 < length name
     → vendor-stage (drop l name) l
-    ≡ pick (eqb (getD name l 0) (code "/") && is-entry-component-char (getD name (l + 1) 0)) (λ u. Path l) (λ u. Fail)
+    ≡ branch (eqb (getD name l 0) (code "/") && is-entry-component-char (getD name (l + 1) 0)) (λ u. Path l) (λ u. Fail)
 unfolding vendor-stage
 vendor-here name l h =
     ap (λ (x : List ℕ). vendor-stage x l)
@@ -375,9 +375,9 @@ module _ {name : List ℕ} {l : ℕ} where
 -- the byte at a place
 path-here : (name : List ℕ) (l : ℕ) → l < length name
     → path-stage (drop l name) l
-    ≡ pick (eqb (getD name l 0) (code " ") || eqb (getD name l 0) (code "\r"))
+    ≡ branch (eqb (getD name l 0) (code " ") || eqb (getD name l 0) (code "\r"))
     (λ u. Done)
-    (λ u. pick (eqb (getD name l 0) (code "/")) (λ u. component-stage (drop (l + 1) name) (suc l)) (λ u. Fail))
+    (λ u. branch (eqb (getD name l 0) (code "/")) (λ u. component-stage (drop (l + 1) name) (suc l)) (λ u. Fail))
 unfolding path-stage
 path-here name l h = ap (λ (x : List ℕ). path-stage x l) (at-place name l h)
 
@@ -434,7 +434,7 @@ module _ {name : List ℕ} {l : ℕ} where
 -- the byte at a place of a component
 component-here : (name : List ℕ) (i : ℕ) → i < length name
     → component-stage (drop i name) i
-    ≡ pick (is-entry-component-char (getD name i 0)) (λ u. component-stage (drop (i + 1) name) (suc i)) (λ u. Path i)
+    ≡ branch (is-entry-component-char (getD name i 0)) (λ u. component-stage (drop (i + 1) name) (suc i)) (λ u. Path i)
 unfolding component-stage
 component-here name i h = ap (λ (x : List ℕ). component-stage x i) (at-place name i h)
 

@@ -44,7 +44,7 @@ pub enum Content {
 
 // ----- entry names -----
 
-pub fn is_entry_component_char(c: u8) -> bool
+fn is_entry_component_char(c: u8) -> bool
     ensures { λ r. ⌜ r ≡ is-entry-component-char c ⌝ }
 {
     if 0x80 <= c {
@@ -63,7 +63,7 @@ pub fn is_entry_component_char(c: u8) -> bool
 }
 
 // The bytes of a word stand at a place of the name.
-pub fn starts_with(name: &[u8], l: usize, word: &[u8]) -> bool
+fn starts_with(name: &[u8], l: usize, word: &[u8]) -> bool
     requires { ⌜ l ≤ length (now name) ⌝ }
     ensures { λ r. ⌜ r ≡ begins (now (word .entry)) (drop l (now (name .entry))) ⌝ }
 {
@@ -82,7 +82,7 @@ pub fn starts_with(name: &[u8], l: usize, word: &[u8]) -> bool
     true
 }
 
-pub fn check_private_shared(name: &[u8]) -> EntryParseStage
+fn check_private_shared(name: &[u8]) -> EntryParseStage
     ensures { λ r. ⌜ r ≡ private-shared-stage (now (name .entry)) ⌝ }
 {
     if starts_with(name, 0, b"/private") {
@@ -94,7 +94,7 @@ pub fn check_private_shared(name: &[u8]) -> EntryParseStage
     EntryParseStage::Fail
 }
 
-pub fn check_admin(name: &[u8], l: usize) -> EntryParseStage
+fn check_admin(name: &[u8], l: usize) -> EntryParseStage
     requires { ⌜ l ≤ length (now name) ⌝ }
     ensures { λ r. ⌜ r ≡ admin-stage (now (name .entry)) l ⌝ }
 {
@@ -105,7 +105,7 @@ pub fn check_admin(name: &[u8], l: usize) -> EntryParseStage
 }
 
 // Behind /vendor: a slash and the vendor's name must be there.
-pub fn check_vendor(name: &[u8], l: usize) -> EntryParseStage
+fn check_vendor(name: &[u8], l: usize) -> EntryParseStage
     requires { ⌜ l ≤ length (now name) ⌝ }
     ensures { λ r. ⌜ Vendors (now (name .entry)) l r ⌝ }
 {
@@ -121,7 +121,7 @@ pub fn check_vendor(name: &[u8], l: usize) -> EntryParseStage
     EntryParseStage::Fail
 }
 
-pub fn check_vendor_comment(name: &[u8], l: usize) -> EntryParseStage
+fn check_vendor_comment(name: &[u8], l: usize) -> EntryParseStage
     requires { ⌜ l ≤ length (now name) ⌝ }
     ensures { λ r. ⌜ r ≡ vendor-comment-stage (now (name .entry)) l ⌝ }
 {
@@ -135,7 +135,7 @@ pub fn check_vendor_comment(name: &[u8], l: usize) -> EntryParseStage
 }
 
 // One component of a path: a slash and all that may stand behind it. A name ends, or a CR or a space ends the check.
-pub fn check_path(name: &[u8], l: usize) -> EntryParseStage
+fn check_path(name: &[u8], l: usize) -> EntryParseStage
     requires { ⌜ l ≤ length (now name) ⌝ }
     ensures { λ r. ⌜ Paths (now (name .entry)) l r ⌝ }
 {
@@ -163,7 +163,7 @@ pub fn check_path(name: &[u8], l: usize) -> EntryParseStage
     EntryParseStage::Done
 }
 
-pub fn check_entry_name(name: &[u8]) -> bool
+fn check_entry_name(name: &[u8]) -> bool
     ensures { λ r. ⌜ r ≡ check-entry-name (now (name .entry)) ⌝ }
 {
     let mut stage = EntryParseStage::PrivateShared;
@@ -193,7 +193,7 @@ pub fn check_entry_name(name: &[u8]) -> bool
 
 // ----- a string's bytes, found without a table -----
 
-pub fn quoted_range(s: &[u8], at: usize) -> Content
+fn quoted_range(s: &[u8], at: usize) -> Content
     requires { ⌜ Room (now s) at ⌝ }
     ensures { λ r. ⌜ Ranged quoted (now (s .entry)) at r ⌝ }
 {
@@ -216,7 +216,7 @@ pub fn quoted_range(s: &[u8], at: usize) -> Content
     }
 }
 
-pub fn literal_range(s: &[u8], at: usize) -> Content
+fn literal_range(s: &[u8], at: usize) -> Content
     requires { ⌜ Room (now s) at ⌝ }
     ensures { λ r. ⌜ Ranged literal (now (s .entry)) at r ⌝ }
 {
@@ -238,7 +238,7 @@ pub fn literal_range(s: &[u8], at: usize) -> Content
     }
 }
 
-pub fn string_range(s: &[u8], at: usize) -> Content
+fn string_range(s: &[u8], at: usize) -> Content
     requires { ⌜ Room (now s) at ⌝ }
     ensures { λ r. ⌜ Ranged string (now (s .entry)) at r ⌝ }
 {
@@ -250,7 +250,7 @@ pub fn string_range(s: &[u8], at: usize) -> Content
 }
 
 // 1*ASTRING-CHAR
-pub fn atom_range(s: &[u8], at: usize) -> Content
+fn atom_range(s: &[u8], at: usize) -> Content
     requires { ⌜ Room (now s) at ⌝ }
     ensures { λ r. ⌜ Ranged (does (node kind-bytes) (leaf (take-while1 astring-chars))) (now (s .entry)) at r ⌝ }
 {
@@ -270,7 +270,7 @@ pub fn atom_range(s: &[u8], at: usize) -> Content
     }
 }
 
-pub fn astring_range(s: &[u8], at: usize) -> Content
+fn astring_range(s: &[u8], at: usize) -> Content
     requires { ⌜ Room (now s) at ⌝ }
     ensures { λ r. ⌜ Ranged astring (now (s .entry)) at r ⌝ }
 {
@@ -300,7 +300,7 @@ pub fn entry_name(s: &[u8], at: usize, t: &mut [u32]) -> Step
     }
 }
 
-pub fn then_entry_name(s: &[u8], r: Step, t: &mut [u32]) -> Step
+fn then_entry_name(s: &[u8], r: Step, t: &mut [u32]) -> Step
     requires { ⌜ RoomAfter (now s) r ⌝ }
     ensures { λ q. ⌜ Goes 0 entry-name (now (s .entry)) r q (now (t .entry)) (now (t .exit)) ⌝ }
 {
@@ -315,7 +315,7 @@ pub fn then_entry_name(s: &[u8], r: Step, t: &mut [u32]) -> Step
 // ----- names with values -----
 
 // entry SP value
-pub fn name_and_value(s: &[u8], at: usize, t: &mut [u32]) -> Step
+fn name_and_value(s: &[u8], at: usize, t: &mut [u32]) -> Step
     requires { ⌜ Room (now s) at ⌝ }
     ensures { λ r. ⌜ Does 0 (entry-name ⋯ sp ⋯ nstring) (now (s .entry)) at r (now (t .entry)) (now (t .exit)) ⌝ }
 {
@@ -325,7 +325,7 @@ pub fn name_and_value(s: &[u8], at: usize, t: &mut [u32]) -> Step
 }
 
 // entry-value = entry SP value
-pub fn entry_value(s: &[u8], at: usize, t: &mut [u32]) -> Step
+fn entry_value(s: &[u8], at: usize, t: &mut [u32]) -> Step
     requires { ⌜ Room (now s) at ⌝ }
     ensures { λ r. ⌜ Does 0 entry-value (now (s .entry)) at r (now (t .entry)) (now (t .exit)) ⌝ }
 {
@@ -334,7 +334,7 @@ pub fn entry_value(s: &[u8], at: usize, t: &mut [u32]) -> Step
     table::finish(t, grammar::KIND_PAIR, at, r)
 }
 
-pub fn then_entry_value(s: &[u8], r: Step, t: &mut [u32]) -> Step
+fn then_entry_value(s: &[u8], r: Step, t: &mut [u32]) -> Step
     requires { ⌜ RoomAfter (now s) r ⌝ }
     ensures { λ q. ⌜ Goes 0 entry-value (now (s .entry)) r q (now (t .entry)) (now (t .exit)) ⌝ }
 {
@@ -347,7 +347,7 @@ pub fn then_entry_value(s: &[u8], r: Step, t: &mut [u32]) -> Step
 }
 
 // SP entry-value
-pub fn sp_entry_value(s: &[u8], at: usize, t: &mut [u32]) -> Step
+fn sp_entry_value(s: &[u8], at: usize, t: &mut [u32]) -> Step
     requires { ⌜ Room (now s) at ⌝ }
     ensures { λ r. ⌜ Does 0 (sp ⋯ entry-value) (now (s .entry)) at r (now (t .entry)) (now (t .exit)) ⌝ }
 {
@@ -356,7 +356,7 @@ pub fn sp_entry_value(s: &[u8], at: usize, t: &mut [u32]) -> Step
 }
 
 // entry-value *(SP entry-value)
-pub fn entry_values(s: &[u8], at: usize, t: &mut [u32]) -> Step
+fn entry_values(s: &[u8], at: usize, t: &mut [u32]) -> Step
     requires { ⌜ Room (now s) at ⌝ }
     ensures { λ r. ⌜ Does 0 (separated-list1 sp entry-value) (now (s .entry)) at r (now (t .entry)) (now (t .exit)) ⌝ }
 {
@@ -388,7 +388,7 @@ pub fn entry_values(s: &[u8], at: usize, t: &mut [u32]) -> Step
     }
 }
 
-pub fn then_entry_values(s: &[u8], r: Step, t: &mut [u32]) -> Step
+fn then_entry_values(s: &[u8], r: Step, t: &mut [u32]) -> Step
     requires { ⌜ RoomAfter (now s) r ⌝ }
     ensures { λ q. ⌜ Goes 0 (separated-list1 sp entry-value) (now (s .entry)) r q (now (t .entry)) (now (t .exit)) ⌝ }
 {
@@ -401,7 +401,7 @@ pub fn then_entry_values(s: &[u8], r: Step, t: &mut [u32]) -> Step
 }
 
 // entry-values = "(" entry-value *(SP entry-value) ")"; any run of blanks before ")"
-pub fn keyval_list(s: &[u8], at: usize, t: &mut [u32]) -> Step
+fn keyval_list(s: &[u8], at: usize, t: &mut [u32]) -> Step
     requires { ⌜ Room (now s) at ⌝ }
     ensures { λ r. ⌜ Does 0 (parenthesized-nonempty-list entry-value) (now (s .entry)) at r (now (t .entry)) (now (t .exit)) ⌝ }
 {
@@ -411,7 +411,7 @@ pub fn keyval_list(s: &[u8], at: usize, t: &mut [u32]) -> Step
     lists::then_char(s, r, b')')
 }
 
-pub fn then_keyval_list(s: &[u8], r: Step, t: &mut [u32]) -> Step
+fn then_keyval_list(s: &[u8], r: Step, t: &mut [u32]) -> Step
     requires { ⌜ RoomAfter (now s) r ⌝ }
     ensures { λ q. ⌜ Goes 0 (parenthesized-nonempty-list entry-value) (now (s .entry)) r q (now (t .entry)) (now (t .exit)) ⌝ }
 {
@@ -426,7 +426,7 @@ pub fn then_keyval_list(s: &[u8], r: Step, t: &mut [u32]) -> Step
 // ----- names alone -----
 
 // SP entry
-pub fn sp_entry_name(s: &[u8], at: usize, t: &mut [u32]) -> Step
+fn sp_entry_name(s: &[u8], at: usize, t: &mut [u32]) -> Step
     requires { ⌜ Room (now s) at ⌝ }
     ensures { λ r. ⌜ Does 0 (sp ⋯ entry-name) (now (s .entry)) at r (now (t .entry)) (now (t .exit)) ⌝ }
 {
@@ -435,7 +435,7 @@ pub fn sp_entry_name(s: &[u8], at: usize, t: &mut [u32]) -> Step
 }
 
 // entry *(SP entry)
-pub fn entry_names(s: &[u8], at: usize, t: &mut [u32]) -> Step
+fn entry_names(s: &[u8], at: usize, t: &mut [u32]) -> Step
     requires { ⌜ Room (now s) at ⌝ }
     ensures { λ r. ⌜ Does 0 (separated-list1 sp entry-name) (now (s .entry)) at r (now (t .entry)) (now (t .exit)) ⌝ }
 {
@@ -468,7 +468,7 @@ pub fn entry_names(s: &[u8], at: usize, t: &mut [u32]) -> Step
 }
 
 // entry-list = entry *(SP entry); it may be empty
-pub fn entry_list(s: &[u8], at: usize, t: &mut [u32]) -> Step
+fn entry_list(s: &[u8], at: usize, t: &mut [u32]) -> Step
     requires { ⌜ Room (now s) at ⌝ }
     ensures { λ r. ⌜ Does 0 entry-list (now (s .entry)) at r (now (t .entry)) (now (t .exit)) ⌝ }
 {
@@ -479,7 +479,7 @@ pub fn entry_list(s: &[u8], at: usize, t: &mut [u32]) -> Step
     table::mark(t, at, grammar::KIND_LIST, 0)
 }
 
-pub fn then_entry_list(s: &[u8], r: Step, t: &mut [u32]) -> Step
+fn then_entry_list(s: &[u8], r: Step, t: &mut [u32]) -> Step
     requires { ⌜ RoomAfter (now s) r ⌝ }
     ensures { λ q. ⌜ Goes 0 entry-list (now (s .entry)) r q (now (t .entry)) (now (t .exit)) ⌝ }
 {
@@ -494,7 +494,7 @@ pub fn then_entry_list(s: &[u8], r: Step, t: &mut [u32]) -> Step
 // ----- METADATA responses -----
 
 // "METADATA" SP mailbox SP; the mailbox only quoted
-pub fn metadata_common(s: &[u8], at: usize, t: &mut [u32]) -> Step
+fn metadata_common(s: &[u8], at: usize, t: &mut [u32]) -> Step
     requires { ⌜ Room (now s) at ⌝ }
     ensures { λ r. ⌜ Does 0 metadata-common (now (s .entry)) at r (now (t .entry)) (now (t .exit)) ⌝ }
 {
@@ -504,7 +504,7 @@ pub fn metadata_common(s: &[u8], at: usize, t: &mut [u32]) -> Step
 }
 
 // A mailbox, and names with their values.
-pub fn mailbox_and_values(s: &[u8], at: usize, t: &mut [u32]) -> Step
+fn mailbox_and_values(s: &[u8], at: usize, t: &mut [u32]) -> Step
     requires { ⌜ Room (now s) at ⌝ }
     ensures { λ r. ⌜ Does 0 (metadata-common ⋯ parenthesized-nonempty-list entry-value) (now (s .entry)) at r (now (t .entry)) (now (t .exit)) ⌝ }
 {
@@ -523,7 +523,7 @@ pub fn metadata_solicited(s: &[u8], at: usize, t: &mut [u32]) -> Step
 }
 
 // A mailbox, and names alone.
-pub fn mailbox_and_names(s: &[u8], at: usize, t: &mut [u32]) -> Step
+fn mailbox_and_names(s: &[u8], at: usize, t: &mut [u32]) -> Step
     requires { ⌜ Room (now s) at ⌝ }
     ensures { λ r. ⌜ Does 0 (metadata-common ⋯ entry-list) (now (s .entry)) at r (now (t .entry)) (now (t .exit)) ⌝ }
 {

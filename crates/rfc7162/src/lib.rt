@@ -1,7 +1,7 @@
 //! The VANISHED response: imap-proto 0.17.0's src/rfc7162.rs.
 
 use table::Step;
-ghost use Rattle.grammar.specs.Notation.{_⋯_, _∣_, exact, any-case, sp, space0, space1, opt, absent, skip-opt, opening, closing, separated-list1, separated-list0, many1, parenthesized-list, parenthesized-nonempty-list};
+ghost use Rattle.grammar.specs.Notation.{_⋯_, _or_, exact, any-case, sp, space0, space1, opt, absent, skip-opt, opening, closing, separated-list1, separated-list0, many1, parenthesized-list, parenthesized-nonempty-list};
 ghost use Rattle.grammar.specs.Grammar.{mark};
 ghost use Rattle.grammar.specs.Kinds.{kind-vanished-earlier};
 ghost use Rattle.grammar.specs.Core.{sequence-set};
@@ -9,7 +9,7 @@ ghost use Rattle.grammar.specs.Rfc7162.{earlier, resp-vanished};
 ghost use Rattle.table.specs.Promise.{Room, RoomAfter, Does, Goes, Skims, SkimsOn};
 
 // A run of blanks and "(EARLIER)", with the node of that kind
-pub fn earlier_mark(s: &[u8], at: usize, t: &mut [u32]) -> Step
+fn earlier_mark(s: &[u8], at: usize, t: &mut [u32]) -> Step
     requires { ⌜ Room (now s) at ⌝ }
     ensures { λ r. ⌜ Does 0 (space1 ⋯ any-case "(EARLIER)" ⋯ mark kind-vanished-earlier 0) (now (s .entry)) at r (now (t .entry)) (now (t .exit)) ⌝ }
 {
@@ -19,7 +19,7 @@ pub fn earlier_mark(s: &[u8], at: usize, t: &mut [u32]) -> Step
 }
 
 // [SP "(EARLIER)"]: the node that VANISHED becomes
-pub fn earlier(s: &[u8], at: usize, t: &mut [u32]) -> Step
+fn earlier(s: &[u8], at: usize, t: &mut [u32]) -> Step
     requires { ⌜ Room (now s) at ⌝ }
     ensures { λ r. ⌜ Does 0 earlier (now (s .entry)) at r (now (t .entry)) (now (t .exit)) ⌝ }
 {
@@ -30,7 +30,7 @@ pub fn earlier(s: &[u8], at: usize, t: &mut [u32]) -> Step
     table::mark(t, at, grammar::KIND_VANISHED, 0)
 }
 
-pub fn then_earlier(s: &[u8], r: Step, t: &mut [u32]) -> Step
+fn then_earlier(s: &[u8], r: Step, t: &mut [u32]) -> Step
     requires { ⌜ RoomAfter (now s) r ⌝ }
     ensures { λ q. ⌜ Goes 0 earlier (now (s .entry)) r q (now (t .entry)) (now (t .exit)) ⌝ }
 {
@@ -43,7 +43,7 @@ pub fn then_earlier(s: &[u8], r: Step, t: &mut [u32]) -> Step
 }
 
 // "VANISHED" [SP "(EARLIER)"] SP known-uids
-pub fn vanished_fields(s: &[u8], at: usize, t: &mut [u32]) -> Step
+fn vanished_fields(s: &[u8], at: usize, t: &mut [u32]) -> Step
     requires { ⌜ Room (now s) at ⌝ }
     ensures { λ r. ⌜ Does 0 (any-case "VANISHED" ⋯ earlier ⋯ space1 ⋯ sequence-set) (now (s .entry)) at r (now (t .entry)) (now (t .exit)) ⌝ }
 {

@@ -7,7 +7,7 @@ use native.Mathlib.Omega.{arith}
 use types.Run.{OneOf}
 use denote.Enum.Declared.{tagOf}
 use Rattle.grammar.specs.Forest.{Forest, size}
-use Rattle.grammar.specs.Out.{Out, took, more, refused, deep, then, orElse}
+use Rattle.grammar.specs.Out.{Out, took, more, refused, deep, followed-by, orElse}
 use Rattle.table.specs.declared.Step.{Step}
 use Rattle.table.specs.declared.Step.the-variants.{Took, More, Refused, Deep}
 use Rattle.table.specs.Table.{as-step, go-on, add-nodes, then-table, else-table}
@@ -54,7 +54,7 @@ go-on-stops (More wanted) k h = refl
 go-on-stops Refused k h = refl
 go-on-stops Deep k h = refl
 
-pub then-stops : (o : Out) (k : ℕ → Forest → Out) → Stops (as-step o) → then o k ≡ o
+pub then-stops : (o : Out) (k : ℕ → Forest → Out) → Stops (as-step o) → followed-by o k ≡ o
 then-stops (took end f) k h = absurd h
 then-stops (more wanted) k h = refl
 then-stops refused k h = refl

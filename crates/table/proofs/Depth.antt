@@ -7,12 +7,12 @@ use lib.ListN.{length, take, drop}
 use native.Mathlib.Omega.{arith}
 use lib.Dec.{T}
 use Rattle.grammar.specs.Forest.{Forest, none, tree, size, beside}
-use Rattle.grammar.specs.Out.{Out, took, more, refused, deep, pick, then, orElse, with-before, repeat}
+use Rattle.grammar.specs.Out.{Out, took, more, refused, deep, branch, followed-by, orElse, with-before, repeated}
 use Rattle.grammar.specs.Scan.{Leaf, tag, tag-no-case, digits, quotes, take-while1, take-while, Scanned, ended, short, failed, leaf-found, leaf-fits, leaf-nodes, leaf-at, leaf-move, first-state, scan}
 use Rattle.grammar.specs.EntryName.{check-entry-name}
 use Rattle.grammar.specs.Grammar.{Act, node, listed, heads, range, uid-range, dropped, act, Inner, G, leaf, literal, nothing, mark, seq, alt, star, does, entry, ref, Reader, named, run}
 use Rattle.grammar.specs.Rules.{levels}
-use Rattle.grammar.proofs.Tests.{pick-ind, T-left, T-right, T-both}
+use Rattle.grammar.proofs.Tests.{branch-ind, T-left, T-right, T-both}
 use Rattle.grammar.proofs.On.{On, on-took, on-more, on-refused, on-deep, on-then, on-else, at-took}
 use Rattle.table.specs.declared.Step.{Step}
 use Rattle.table.specs.declared.Step.the-variants.{Took, More, Refused, Deep}
@@ -38,8 +38,8 @@ plain (entry g) = plain g
 plain (ref n) = false
 
 -- the same after the same
-then-cong : (o : Out) (k k′ : ℕ → Forest → Out) → ((e : ℕ) (f : Forest) → k e f ≡ k′ e f) → then o k ≡ then o k′
-then-cong o k k′ h = ap (then o) (fun-ext (λ e. fun-ext (λ f. h e f)))
+then-cong : (o : Out) (k k′ : ℕ → Forest → Out) → ((e : ℕ) (f : Forest) → k e f ≡ k′ e f) → followed-by o k ≡ followed-by o k′
+then-cong o k k′ h = ap (followed-by o) (fun-ext (λ e. fun-ext (λ f. h e f)))
 
 then-table-cong : (o o′ : Out) (t t′ : List ℕ) (k k′ : ℕ → ℕ → List ℕ) → o ≡ o′ → t ≡ t′ → ((e n : ℕ) → k e n ≡ k′ e n)
     → then-table (as-step o) t k ≡ then-table (as-step o′) t′ k′
@@ -57,15 +57,15 @@ module _ (i j : Inner → Reader) where
   run-plain nothing t s at = refl
   run-plain (mark kind a) t s at = refl
   run-plain (seq g h) t s at =
-      ap (λ o. then o (λ e f. with-before f (run i h s e))) (run-plain g (T-left (plain g) (plain h) t) s at)
+      ap (λ o. followed-by o (λ e f. with-before f (run i h s e))) (run-plain g (T-left (plain g) (plain h) t) s at)
       ∙ then-cong (run j g s at) _ _ (λ e f. ap (with-before f) (run-plain h (T-right (plain g) (plain h) t) s e))
   run-plain (alt g h) t s at =
       ap (λ o. orElse o (λ u. run i h s at)) (run-plain g (T-left (plain g) (plain h) t) s at)
       ∙ ap (λ (o : Out). orElse (run j g s at) (λ u. o)) (run-plain h (T-right (plain g) (plain h) t) s at)
-  run-plain (star g) t s at = ap (λ r. repeat (suc (length s)) r at) (fun-ext (λ k. run-plain g t s k))
-  run-plain (does a g) t s at = ap (λ o. then o (λ e f. took e (act a at e f))) (run-plain g t s at)
+  run-plain (star g) t s at = ap (λ r. repeated (suc (length s)) r at) (fun-ext (λ k. run-plain g t s k))
+  run-plain (does a g) t s at = ap (λ o. followed-by o (λ e f. took e (act a at e f))) (run-plain g t s at)
   run-plain (entry g) t s at =
-      ap (λ o. then o (λ e f. pick (check-entry-name (named f (take e s))) (λ u. took e f) (λ u. refused))) (run-plain g t s at)
+      ap (λ o. followed-by o (λ e f. branch (check-entry-name (named f (take e s))) (λ u. took e f) (λ u. refused))) (run-plain g t s at)
   run-plain (ref n) t s at = absurd t
 
   module _ (v w : Inner → Filler) where
@@ -168,11 +168,11 @@ bare-nodes (take-while1 class) at e v b = refl
 bare-nodes (take-while class) at e v b = refl
 
 bare-found : (l : Leaf) (at : ℕ) (x : Scanned) → T (bare-leaf l) → Nodeless (leaf-found l at x)
-bare-found l at (ended e v) b = pick-ind Nodeless (leaf-fits l v) _ _ (λ u. on-took (bare-nodes l at e v b)) (λ u. on-refused)
+bare-found l at (ended e v) b = branch-ind Nodeless (leaf-fits l v) _ _ (λ u. on-took (bare-nodes l at e v b)) (λ u. on-refused)
 bare-found l at short b = on-more tt
 bare-found l at failed b = on-refused
 
-dropped-run : (a : Act) → T (bare-act a) → (at : ℕ) (o : Out) → Nodeless (then o (λ e f. took e (act a at e f)))
+dropped-run : (a : Act) → T (bare-act a) → (at : ℕ) (o : Out) → Nodeless (followed-by o (λ e f. took e (act a at e f)))
 unfolding bare-act act
 dropped-run (node kind) b at o = absurd b
 dropped-run listed b at o = absurd b

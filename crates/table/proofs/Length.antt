@@ -10,7 +10,7 @@ use mir.Val.{Fits}
 use mir.Syntax.{w64}
 use borrow.Author.Tests.{leb-true}
 use Rattle.grammar.specs.Forest.{Forest, none, tree, size, count}
-use Rattle.grammar.specs.Out.{Out, took, more, refused, deep, pick, then}
+use Rattle.grammar.specs.Out.{Out, took, more, refused, deep, branch, followed-by}
 use Rattle.grammar.specs.Scan.{leaf-at, literal-at}
 use Rattle.grammar.specs.Grammar.{Act, node, listed, heads, range, uid-range, dropped, act, Inner, G, leaf, literal, nothing, mark, seq, alt, star, does, entry, ref, Reader, run}
 use Rattle.grammar.specs.Rules.{levels}
@@ -23,7 +23,7 @@ use Rattle.table.specs.Promise.{Does, Skipped}
 
 -- four words for four
 four-length : (x : Bool) (k a b n : ℕ) (t : List ℕ) → leb 4 (length t) ≡ x
-    → length (pick x (λ u. k ∷ a ∷ b ∷ n ∷ drop 4 t) (λ u. t)) ≡ length t
+    → length (branch x (λ u. k ∷ a ∷ b ∷ n ∷ drop 4 t) (λ u. t)) ≡ length t
 four-length true k a b n t p = let l = leb-true 4 (length t) p in let m = length-drop 4 t in omega arith
 four-length false k a b n t p = refl
 
@@ -81,8 +81,8 @@ act-table-length (node k) at o below t h =
     then-table-length (as-step o) (onward 1 below t) _ (length t) p (λ e n. over-length k at e (n + 1) (onward 1 below t) ∙ p)
 act-table-length listed at o below t h = list-table-length o (onward 1 below t) ∙ onward-length 1 below t h
 act-table-length heads at o below t h = then-table-length (as-step o) (below t) _ (length t) (h t) (λ e n. rehead-length at e n (below t) ∙ h t)
-act-table-length range at o below t h = lay-length (then o (λ e f. took e (act range at e f))) t
-act-table-length uid-range at o below t h = lay-length (then o (λ e f. took e (act uid-range at e f))) t
+act-table-length range at o below t h = lay-length (followed-by o (λ e f. took e (act range at e f))) t
+act-table-length uid-range at o below t h = lay-length (followed-by o (λ e f. took e (act uid-range at e f))) t
 act-table-length dropped at o below t h = refl
 
 pub repeat-table-length : (item : ℕ → Step) (write : ℕ → List ℕ → List ℕ) → ((i : ℕ) (u : List ℕ) → length (write i u) ≡ length u)

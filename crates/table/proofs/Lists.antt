@@ -12,7 +12,7 @@ use borrow.Author.Tests.{le-leb, lt-leb, leb-true, leb-false}
 use borrow.Rule.Slice.PartMut.{putMid}
 use Rattle.grammar.specs.Kinds.{kind-list}
 use Rattle.grammar.specs.Forest.{Forest, none, tree, size, count, beside}
-use Rattle.grammar.specs.Out.{Out, took, more, refused, deep, pick, then, with-before, again, repeat}
+use Rattle.grammar.specs.Out.{Out, took, more, refused, deep, branch, followed-by, with-before, again, repeated}
 use Rattle.grammar.specs.Grammar.{G, seq, star, does, listed, act, run}
 use Rattle.grammar.specs.Reading.{length-limit}
 use Rattle.grammar.proofs.Tests.{T-true}
@@ -36,19 +36,19 @@ skip-add len p n = first (leb p (len / 4)) refl
   where
     -- where the first part lies within the table
     second : (x : Bool) → p ≤ len / 4 → leb n ((len - 4 * p) / 4) ≡ x
-        → 4 * p + pick x (λ u. 4 * n) (λ u. len - 4 * p) ≡ pick (leb (n + p) (len / 4)) (λ u. 4 * (n + p)) (λ u. len)
+        → 4 * p + branch x (λ u. 4 * n) (λ u. len - 4 * p) ≡ branch (leb (n + p) (len / 4)) (λ u. 4 * (n + p)) (λ u. len)
     second true l e = let m = leb-true n ((len - 4 * p) / 4) e in rw (le-leb (n + p) (len / 4) (omega arith)) (omega arith)
     second false l e = let m = leb-false n ((len - 4 * p) / 4) e in rw (lt-leb (n + p) (len / 4) (omega arith)) (omega arith)
 
     -- and where it does not, nothing is left
     none-left : (x : Bool) → len / 4 < p → leb n ((len - len) / 4) ≡ x
-        → len + pick x (λ u. 4 * n) (λ u. len - len) ≡ pick (leb (n + p) (len / 4)) (λ u. 4 * (n + p)) (λ u. len)
+        → len + branch x (λ u. 4 * n) (λ u. len - len) ≡ branch (leb (n + p) (len / 4)) (λ u. 4 * (n + p)) (λ u. len)
     none-left true l e = let m = leb-true n ((len - len) / 4) e in rw (lt-leb (n + p) (len / 4) (omega arith)) (omega arith)
     none-left false l e = rw (lt-leb (n + p) (len / 4) (omega arith)) (omega arith)
 
     first : (x : Bool) → leb p (len / 4) ≡ x
-        → pick x (λ u. 4 * p) (λ u. len) + pick (leb n ((len - pick x (λ u. 4 * p) (λ u. len)) / 4)) (λ u. 4 * n) (λ u. len - pick x (λ u. 4 * p) (λ u. len))
-        ≡ pick (leb (n + p) (len / 4)) (λ u. 4 * (n + p)) (λ u. len)
+        → branch x (λ u. 4 * p) (λ u. len) + branch (leb n ((len - branch x (λ u. 4 * p) (λ u. len)) / 4)) (λ u. 4 * n) (λ u. len - branch x (λ u. 4 * p) (λ u. len))
+        ≡ branch (leb (n + p) (len / 4)) (λ u. 4 * (n + p)) (λ u. len)
     first true e = second (leb n ((len - 4 * p) / 4)) (leb-true p (len / 4) e) refl
     first false e = none-left (leb n ((len - len) / 4)) (leb-false p (len / 4) e) refl
 
@@ -56,7 +56,7 @@ skip-in : (len n : ℕ) → skip-to len n ≤ len
 unfolding skip-to
 skip-in len n = go (leb n (len / 4)) refl
   where
-    go : (x : Bool) → leb n (len / 4) ≡ x → pick x (λ u. 4 * n) (λ u. len) ≤ len
+    go : (x : Bool) → leb n (len / 4) ≡ x → branch x (λ u. 4 * n) (λ u. len) ≤ len
     go true e = let m = leb-true n (len / 4) e in omega arith
     go false e = omega arith
 
@@ -124,7 +124,7 @@ again-took e′ at f next l = rw (T-true (ltb at e′) (lt→ltb at e′ l))
 pub record Left (d : ℕ) (h : G) (s : List ℕ) (e₀ n₀ : ℕ) (t₀ : List ℕ) (items : Forest) (e n : ℕ) (t : List ℕ) (k₀ : ℕ) : Type 0 where
   pub turns : ℕ
   pub enough : length s < turns + e
-  pub reads : repeat k₀ (λ i. find d h s i) e₀ ≡ with-before items (repeat turns (λ i. find d h s i) e)
+  pub reads : repeated k₀ (λ i. find d h s i) e₀ ≡ with-before items (repeated turns (λ i. find d h s i) e)
   pub writes :
       repeat-table k₀ (λ i. as-step (find d h s i)) (λ i u. fill d h s i u) e₀ n₀ t₀
       ≡ repeat-table turns (λ i. as-step (find d h s i)) (λ i u. fill d h s i u) e n t
@@ -154,7 +154,7 @@ turning-none {d} {h} {s} {e} inside = record {
   items = none;
   nodes = omega arith;
   number = omega arith;
-  left = λ k₀ l. record { turns = k₀; enough = l; reads = with-none (repeat k₀ (λ i. find d h s i) e); writes = refl };
+  left = λ k₀ l. record { turns = k₀; enough = l; reads = with-none (repeated k₀ (λ i. find d h s i) e); writes = refl };
   forward = omega arith;
   inside = inside;
   few = omega arith;
@@ -171,12 +171,12 @@ lent-length {d} {h} {s} {e} {n} t {v} {k} skipped did =
 -- one more turn of what is left
 left-more : {d : ℕ} {h : G} {s : List ℕ} {e n e′ m : ℕ} {t v : List ℕ} (f : Forest) → e ≤ length s → e < e′ → find d h s e ≡ took e′ f → m ≡ size f
     → v ≡ onward n (λ u. fill d h s e u) t → (k : ℕ) → length s < k + e → Left d h s e n t f e′ (m + n) v k
-unfolding repeat repeat-table
+unfolding repeated repeat-table
 left-more {d} {h} {s} {e} {n} {e′} {m} {t} {v} f inside up p q w zero l = absurd (omega arith)
 left-more {d} {h} {s} {e} {n} {e′} {m} {t} {v} f inside up p q w (suc k) l = record {
   turns = k;
   enough = omega arith;
-  reads = rw p (again-took e′ e f (λ i. repeat k (λ j. find d h s j) i) up);
+  reads = rw p (again-took e′ e f (λ i. repeated k (λ j. find d h s j) i) up);
   writes = rw (p, q, ← w);
 }
 
@@ -185,7 +185,7 @@ left-join : {d : ℕ} {h : G} {s : List ℕ} {e₀ n₀ : ℕ} {t₀ : List ℕ}
 left-join {d} {h} {s} {f = f} {g = g} {e′ = e′} x y = record {
   turns = y .turns;
   enough = y .enough;
-  reads = x .reads ∙ ap (with-before f) (y .reads) ∙ with-both f g (repeat (y .turns) (λ i. find d h s i) e′);
+  reads = x .reads ∙ ap (with-before f) (y .reads) ∙ with-both f g (repeated (y .turns) (λ i. find d h s i) e′);
   writes = x .writes ∙ y .writes;
 }
 
@@ -220,18 +220,18 @@ list-of g h = does listed (seq g (star h))
 -- what the definition says of it, once the first item is found
 list-found : (d : ℕ) (g h : G) (s : List ℕ) (at e : ℕ) (f : Forest) → find d g s at ≡ took e f
     → find d (list-of g h) s at
-    ≡ then (with-before f (repeat (suc (length s)) (λ i. find d h s i) e)) (λ e′ f′. took e′ (tree kind-list (count f′) 0 f′ none))
+    ≡ followed-by (with-before f (repeated (suc (length s)) (λ i. find d h s i) e)) (λ e′ f′. took e′ (tree kind-list (count f′) 0 f′ none))
 unfolding run act
 list-found d g h s at e f p = rw p
 
 list-filled : (d : ℕ) (g h : G) (s : List ℕ) (at e : ℕ) (f : Forest) (t : List ℕ) → find d g s at ≡ took e f
     → fill d (list-of g h) s at t
-    ≡ list-table (with-before f (repeat (suc (length s)) (λ i. find d h s i) e))
+    ≡ list-table (with-before f (repeated (suc (length s)) (λ i. find d h s i) e))
     (repeat-table (suc (length s)) (λ i. as-step (find d h s i)) (λ i u. fill d h s i u) e (size f + 1) (onward 1 (λ u. fill d g s at u) t))
 unfolding run fill-with act-table
 list-filled d g h s at e f t p =
     rw p
-    (ap (list-table (with-before f (repeat (suc (length s)) (λ i. find d h s i) e)))
+    (ap (list-table (with-before f (repeated (suc (length s)) (λ i. find d h s i) e)))
     (onward-compose 1 (λ u. onward (size f) (λ v. repeat-table (suc (length s)) (λ i. as-step (find d h s i)) (λ i u. fill d h s i u) e 0 v) u)
     (λ u. fill d g s at u) t (λ u. fill-length d g s at u)
     ∙ onward-onward 1 (size f) (λ v. repeat-table (suc (length s)) (λ i. as-step (find d h s i)) (λ i u. fill d h s i u) e 0 v) (onward 1 (λ u. fill d g s at u) t)
@@ -239,15 +239,15 @@ list-filled d g h s at e f t p =
     ∙ ap (λ (x : ℕ). repeat-table (suc (length s)) (λ i. as-step (find d h s i)) (λ i u. fill d h s i u) e x (onward 1 (λ u. fill d g s at u) t)) (omega arith)))
 
 -- the last turn: nothing more, or the end of the reading
-repeat-refused : (k : ℕ) (item-at : ℕ → Out) (e : ℕ) → item-at e ≡ refused → repeat (suc k) item-at e ≡ took e none
-unfolding repeat
+repeat-refused : (k : ℕ) (item-at : ℕ → Out) (e : ℕ) → item-at e ≡ refused → repeated (suc k) item-at e ≡ took e none
+unfolding repeated
 repeat-refused k item-at e p = rw p
 
-repeat-ends : (k : ℕ) (item-at : ℕ → Out) (e : ℕ) → Ends (as-step (item-at e)) → repeat (suc k) item-at e ≡ item-at e
-unfolding repeat
+repeat-ends : (k : ℕ) (item-at : ℕ → Out) (e : ℕ) → Ends (as-step (item-at e)) → repeated (suc k) item-at e ≡ item-at e
+unfolding repeated
 repeat-ends k item-at e told = go (item-at e) told
   where
-    go : (o : Out) → Ends (as-step o) → again o e (λ e′. repeat k item-at e′) ≡ o
+    go : (o : Out) → Ends (as-step o) → again o e (λ e′. repeated k item-at e′) ≡ o
     go (took e′ f) told = absurd (elim told [ inl a ↦ omega arith | inr b ↦ omega arith ])
     go (more w) told = refl
     go refused told = absurd (elim told [ inl a ↦ omega arith | inr b ↦ omega arith ])
@@ -260,8 +260,8 @@ turn-written k item-at write e n t stopped = then-table-stops (item-at e) (onwar
 
 -- what the invariant says once the item at e took nothing
 pub record Last (d : ℕ) (h : G) (s : List ℕ) (e₀ n₀ : ℕ) (t₀ : List ℕ) (items : Forest) (e n : ℕ) (t : List ℕ) : Type 0 where
-  pub reads : (o : Out) → ((k : ℕ) → repeat (suc k) (λ i. find d h s i) e ≡ o)
-      → repeat (suc (length s)) (λ i. find d h s i) e₀ ≡ with-before items o
+  pub reads : (o : Out) → ((k : ℕ) → repeated (suc k) (λ i. find d h s i) e ≡ o)
+      → repeated (suc (length s)) (λ i. find d h s i) e₀ ≡ with-before items o
   pub writes : Stops (as-step (find d h s e))
       → repeat-table (suc (length s)) (λ i. as-step (find d h s i)) (λ i u. fill d h s i u) e₀ n₀ t₀ ≡ onward n (λ u. fill d h s e u) t
 
@@ -271,7 +271,7 @@ last-turn {d} {h} {s} {e₀} {n₀} {c₀} {t₀} {e} {n} {c} {t} inv =
     let x = inv .left (suc (length s)) (omega arith) in go (x .turns) (x .enough) (x .reads) (x .writes)
   where
     go : (k : ℕ) → length s < k + e
-        → repeat (suc (length s)) (λ i. find d h s i) e₀ ≡ with-before (inv .items) (repeat k (λ i. find d h s i) e)
+        → repeated (suc (length s)) (λ i. find d h s i) e₀ ≡ with-before (inv .items) (repeated k (λ i. find d h s i) e)
         → repeat-table (suc (length s)) (λ i. as-step (find d h s i)) (λ i u. fill d h s i u) e₀ n₀ t₀
         ≡ repeat-table k (λ i. as-step (find d h s i)) (λ i u. fill d h s i u) e n t
         → Last d h s e₀ n₀ t₀ (inv .items) e n t
@@ -297,14 +297,14 @@ list-ends {d} {g} {h} {s} {at} {e₀} {m₀} {T₀} {v₀} {k₀} {e} {n} {c} {t
     let sized : size F + 1 ≡ n = omega (arith, size-beside (f .forest) (inv .items), f .sized, inv .nodes) in
     let counted : count F ≡ c = omega (arith, count-beside (f .forest) (inv .items), inv .number) in
     let z = last-turn inv in
-    let o : with-before (f .forest) (repeat (suc (length s)) (λ i. find d h s i) e₀) ≡ took e F =
+    let o : with-before (f .forest) (repeated (suc (length s)) (λ i. find d h s i) e₀) ≡ took e F =
     ap (with-before (f .forest)) (z .reads (took e none) (λ j. repeat-refused j (λ i. find d h s i) e gone))
     ∙ ap (λ (x : Forest). took e (beside (f .forest) x)) (beside-none (inv .items)) in
     let w : repeat-table (suc (length s)) (λ i. as-step (find d h s i)) (λ i u. fill d h s i u) e₀ (size (f .forest) + 1) (onward 1 (λ u. fill d g s at u) T₀)
     ≡ onward n (λ u. fill d h s e u) t =
     rw (← f .sized, ← lent 1 (λ u. fill d g s at u) T₀ v₀ k₀ skipped₀ (first .wrote)) (z .writes (rw gone tt)) in
     record {
-      read = ap (Took e) (omega arith) ∙ ap as-step (sym (list-found d g h s at e₀ (f .forest) (f .is) ∙ ap (λ x. then x (λ e′ f′. took e′ (tree kind-list (count f′) 0 f′ none))) o));
+      read = ap (Took e) (omega arith) ∙ ap as-step (sym (list-found d g h s at e₀ (f .forest) (f .is) ∙ ap (λ x. followed-by x (λ e′ f′. took e′ (tree kind-list (count f′) 0 f′ none))) o));
       wrote =
           put
           ∙ ap (over kind-list c 0 n) (lent n (λ u. fill d h s e u) t v k skipped (last .wrote))
@@ -326,7 +326,7 @@ ends-through f g refused told = refl
 ends-through f g deep told = refl
 
 abbrev as-list : Out → Out
-as-list o = then o (λ e f. took e (tree kind-list (count f) 0 f none))
+as-list o = followed-by o (λ e f. took e (tree kind-list (count f) 0 f none))
 
 ends-list : (o : Out) → Ends (as-step o) → as-list o ≡ o
 ends-list (took e h) told = absurd (elim told [ inl a ↦ omega arith | inr b ↦ omega arith ])
@@ -340,14 +340,14 @@ ends-table (more w) t told = refl
 ends-table refused t told = refl
 ends-table deep t told = refl
 
-stopped-list : (o : Out) (next : ℕ → Forest → Out) → Stops (as-step o) → as-step (as-list (then o next)) ≡ as-step o
+stopped-list : (o : Out) (next : ℕ → Forest → Out) → Stops (as-step o) → as-step (as-list (followed-by o next)) ≡ as-step o
 stopped-list (took e f) next z = absurd z
 stopped-list (more w) next z = refl
 stopped-list refused next z = refl
 stopped-list deep next z = refl
 
 stopped-table : (o : Out) (next : ℕ → Forest → Out) (write : List ℕ → List ℕ) (more-of : List ℕ → ℕ → ℕ → List ℕ) (t : List ℕ) → Stops (as-step o)
-    → list-table (then o next) (onward 1 (λ u. then-table (as-step o) (write u) (more-of u)) t) ≡ onward 1 write t
+    → list-table (followed-by o next) (onward 1 (λ u. then-table (as-step o) (write u) (more-of u)) t) ≡ onward 1 write t
 stopped-table (took e f) next write more-of t z = absurd z
 stopped-table (more w) next write more-of t z = refl
 stopped-table refused next write more-of t z = refl
@@ -363,14 +363,14 @@ list-halts {d} {g} {h} {s} {at} {e₀} {m₀} {T₀} {v₀} {k₀} {e} {n} {c} {
     let f = found (find d g s at) e₀ m₀ (first .read) in
     let told′ : Ends (as-step (find d h s e)) = subst Ends (last .read) told in
     let z = last-turn inv in
-    let o : with-before (f .forest) (repeat (suc (length s)) (λ i. find d h s i) e₀) ≡ find d h s e =
+    let o : with-before (f .forest) (repeated (suc (length s)) (λ i. find d h s i) e₀) ≡ find d h s e =
     ap (with-before (f .forest)) (z .reads (find d h s e) (λ j. repeat-ends j (λ i. find d h s i) e told′))
     ∙ ends-through (f .forest) (inv .items) (find d h s e) told′ in
     let w : repeat-table (suc (length s)) (λ i. as-step (find d h s i)) (λ i u. fill d h s i u) e₀ (size (f .forest) + 1) (onward 1 (λ u. fill d g s at u) T₀)
     ≡ onward n (λ u. fill d h s e u) t =
     rw (← f .sized, ← lent 1 (λ u. fill d g s at u) T₀ v₀ k₀ skipped₀ (first .wrote)) (z .writes (ends-stops (as-step (find d h s e)) told′)) in
     record {
-      read = last .read ∙ ap as-step (sym (list-found d g h s at e₀ (f .forest) (f .is) ∙ ap (λ x. then x (λ e′ f′. took e′ (tree kind-list (count f′) 0 f′ none))) o ∙ ends-list (find d h s e) told′));
+      read = last .read ∙ ap as-step (sym (list-found d g h s at e₀ (f .forest) (f .is) ∙ ap (λ x. followed-by x (λ e′ f′. took e′ (tree kind-list (count f′) 0 f′ none))) o ∙ ends-list (find d h s e) told′));
       wrote =
           lent n (λ u. fill d h s e u) t v k skipped (last .wrote)
           ∙ sym (list-filled d g h s at e₀ (f .forest) T₀ (f .is) ∙ rw (o, w) (ends-table (find d h s e) (onward n (λ u. fill d h s e u) t) told′));

@@ -10,7 +10,7 @@ use borrow.Author.Tests.{le-leb}
 use borrow.Rule.Slice.PartMut.{putMid}
 use Rattle.grammar.specs.Forest.{Forest, size}
 use Rattle.grammar.proofs.Forests.{size-beside}
-use Rattle.grammar.specs.Out.{Out, took, more, refused, deep, then, with-before}
+use Rattle.grammar.specs.Out.{Out, took, more, refused, deep, followed-by, with-before}
 use Rattle.grammar.specs.Grammar.{G, seq, run}
 use Rattle.table.specs.declared.Step.{Step}
 use Rattle.table.specs.declared.Step.the-variants.{Took, More, Refused, Deep}

@@ -7,7 +7,7 @@ use lib.ListN.{length, take, drop, set}
 use borrow.Author.Tests.{le-leb, lt-leb}
 use borrow.Rule.Slice.PartMut.{putMid}
 use Rattle.grammar.specs.Forest.{Forest, none, tree, size, beside}
-use Rattle.grammar.specs.Out.{Out, took, more, refused, deep, then}
+use Rattle.grammar.specs.Out.{Out, took, more, refused, deep, followed-by}
 use Rattle.grammar.specs.Grammar.{G, nothing, mark, alt, does, node, heads, act, headed, run}
 use Rattle.grammar.proofs.Forests.{size-beside}
 use Rattle.table.specs.declared.Step.{Step}
@@ -46,7 +46,7 @@ nothing-done = record { read = refl; wrote = refl }
 
 -- node -----------------------------------------------------------------------------------------------------------------
 
-pub step-node : (o : Out) (kind at : ℕ) → as-step (then o (λ e f. took e (act (node kind) at e f))) ≡ add-nodes 1 (as-step o)
+pub step-node : (o : Out) (kind at : ℕ) → as-step (followed-by o (λ e f. took e (act (node kind) at e f))) ≡ add-nodes 1 (as-step o)
 unfolding size act
 step-node (took e f) kind at = ap (Took e) (omega arith)
 step-node (more w) kind at = refl
@@ -77,7 +77,7 @@ unfolding headed size
 size-headed at e none = refl
 size-headed at e (tree k a b f g) = omega (arith, size-beside f g)
 
-step-heads : (o : Out) (at : ℕ) → as-step (then o (λ e f. took e (act heads at e f))) ≡ as-step o
+step-heads : (o : Out) (at : ℕ) → as-step (followed-by o (λ e f. took e (act heads at e f))) ≡ as-step o
 unfolding act
 step-heads (took e f) at = ap (Took e) (size-headed at e f)
 step-heads (more w) at = refl

@@ -11,7 +11,7 @@ use Rattle.grammar.specs.Out.{took}
 use Rattle.grammar.specs.Scan.{Leaf, tag, tag-no-case, digits, quotes, take-while1, take-while, leaf-nodes, leaf-at, leaf-found, leaf-fits, content, literal-at, header-move, leaf-move, first-state, scan, Scanned, ended, short, failed}
 use Rattle.grammar.specs.Grammar.{Act, node, listed, heads, range, uid-range, dropped, act, as-range, as-uid-range, headed, Inner, a-body, an-extension-list, G, leaf, literal, nothing, mark, seq, alt, star, does, entry, ref}
 use Rattle.grammar.specs.BodyStructure.{grammar}
-use Rattle.grammar.proofs.Tests.{pick-ind, T-left, T-right, T-both}
+use Rattle.grammar.proofs.Tests.{branch-ind, T-left, T-right, T-both}
 use Rattle.grammar.proofs.On.{On, on-took, on-more, on-refused, at-took}
 use Rattle.grammar.proofs.Closed.{Test, every, everywhere, Closed, grammar-keeps}
 use Rattle.table.specs.Fill.{find}
@@ -104,7 +104,7 @@ Of g e f = Trees g f
 leaf-tree : (l : Leaf) (at : ℕ) (x : Scanned) → On (Of (leaf l)) (λ w. Unit {0}) (leaf-found l at x)
 unfolding fewest-trees most-trees
 leaf-tree l at (ended e v) =
-    pick-ind (On (Of (leaf l)) (λ w. Unit {0})) (leaf-fits l v) _ _
+    branch-ind (On (Of (leaf l)) (λ w. Unit {0})) (leaf-fits l v) _ _
     (λ u. on-took (let z = leaf-count l at e v in record { low = omega arith; high = λ b. omega arith })) (λ u. on-refused)
 leaf-tree l at short = on-more tt
 leaf-tree l at failed = on-refused
@@ -112,7 +112,7 @@ leaf-tree l at failed = on-refused
 literal-tree : (len : ℕ) (x : Scanned) → On (Of literal) (λ w. Unit {0}) (content len x)
 unfolding fewest-trees most-trees count
 literal-tree len (ended e v) =
-    pick-ind (On (Of literal) (λ w. Unit {0})) (leb (e + v) len) _ _
+    branch-ind (On (Of literal) (λ w. Unit {0})) (leb (e + v) len) _ _
     (λ u. on-took (record { low = omega arith; high = λ b. omega arith })) (λ u. on-more tt)
 literal-tree len short = on-more tt
 literal-tree len failed = on-refused

@@ -9,13 +9,13 @@ use borrow.Author.Tests.{le-leb}
 use Rattle.grammar.specs.Text.{ascii}
 use Rattle.grammar.specs.Kinds.{kind-list}
 use Rattle.grammar.specs.Forest.{Forest, none, tree, node-of, size, count, words, beside}
-use Rattle.grammar.specs.Out.{Out, took, more, refused, deep, pick, then, orElse, with-before, again, repeat}
+use Rattle.grammar.specs.Out.{Out, took, more, refused, deep, branch, followed-by, orElse, with-before, again, repeated}
 use Rattle.grammar.specs.Scan.{Leaf, tag, tag-no-case, digits, quotes, take-while1, take-while, Scanned, ended, short, failed, leaf-found, leaf-fits, leaf-nodes, leaf-at, leaf-move, first-state, scan, content, literal-at, header-move}
 use Rattle.grammar.specs.EntryName.{check-entry-name}
 use Rattle.grammar.specs.Grammar.{Act, node, listed, heads, range, uid-range, dropped, act, as-range, as-uid-range, headed, Inner, G, leaf, literal, nothing, mark, seq, alt, star, does, entry, ref, Reader, named, run}
 use Rattle.grammar.specs.BodyStructure.{grammar}
 use Rattle.grammar.specs.Rules.{levels}
-use Rattle.grammar.proofs.Tests.{pick-ind}
+use Rattle.grammar.proofs.Tests.{branch-ind}
 use Rattle.grammar.proofs.On.{On, on-took, on-more, on-refused, on-deep, on-map, on-then, at-took}
 use Rattle.table.specs.Table.{as-step, then-table, else-table, parent-table, list-table, head-table, lay, over, rehead, onward, skip-to}
 use Rattle.table.specs.Fill.{Filler, act-table, repeat-table, fill-with, fill-levels, find, fill}
@@ -95,12 +95,12 @@ leaf-single (take-while1 class) at e v = no-node
 leaf-single (take-while class) at e v = no-node
 
 leaf-lone : (l : Leaf) (at : ℕ) (x : Scanned) → Lone (leaf-found l at x)
-leaf-lone l at (ended e v) = pick-ind Lone (leaf-fits l v) _ _ (λ u. on-took (leaf-single l at e v)) (λ u. on-refused)
+leaf-lone l at (ended e v) = branch-ind Lone (leaf-fits l v) _ _ (λ u. on-took (leaf-single l at e v)) (λ u. on-refused)
 leaf-lone l at short = on-more tt
 leaf-lone l at failed = on-refused
 
 literal-lone : (len : ℕ) (x : Scanned) → Lone (content len x)
-literal-lone len (ended e v) = pick-ind Lone (leb (e + v) len) _ _ (λ u. on-took one-node) (λ u. on-more tt)
+literal-lone len (ended e v) = branch-ind Lone (leb (e + v) len) _ _ (λ u. on-took one-node) (λ u. on-more tt)
 literal-lone len short = on-more tt
 literal-lone len failed = on-refused
 
@@ -116,7 +116,7 @@ uid-range-single none = no-node
 uid-range-single (tree k a b f none) = one-node
 uid-range-single (tree k a b f (tree k′ a′ b′ f′ g)) = one-node
 
-made-lone : (o : Out) (k : ℕ → Forest → Forest) → ((e : ℕ) (f : Forest) → Single (k e f)) → Lone (then o (λ e f. took e (k e f)))
+made-lone : (o : Out) (k : ℕ → Forest → Forest) → ((e : ℕ) (f : Forest) → Single (k e f)) → Lone (followed-by o (λ e f. took e (k e f)))
 made-lone (took e f) k h = on-took (h e f)
 made-lone (more w) k h = on-more tt
 made-lone refused k h = on-refused
@@ -144,14 +144,14 @@ parent-filled k a b n f write t e p h =
     }
 
 node-fills : (k at : ℕ) (o : Out) (write : List ℕ → List ℕ) → Fills write o
-    → Fills (λ t. parent-table k at (as-step o) (onward 1 write t)) (then o (λ e f. took e (tree k at e f none)))
+    → Fills (λ t. parent-table k at (as-step o) (onward 1 write t)) (followed-by o (λ e f. took e (tree k at e f none)))
 node-fills k at (took e f) write x = on-took (λ t. parent-filled k at e (size f + 1) f write t refl (at-took x refl))
 node-fills k at (more w) write x = on-more tt
 node-fills k at refused write x = on-refused
 node-fills k at deep write x = on-deep
 
 list-fills : (o : Out) (write : List ℕ → List ℕ) → Fills write o
-    → Fills (λ t. list-table o (onward 1 write t)) (then o (λ e f. took e (tree kind-list (count f) 0 f none)))
+    → Fills (λ t. list-table o (onward 1 write t)) (followed-by o (λ e f. took e (tree kind-list (count f) 0 f none)))
 list-fills (took e f) write x = on-took (λ t. parent-filled kind-list (count f) 0 (size f + 1) f write t refl (at-took x refl))
 list-fills (more w) write x = on-more tt
 list-fills refused write x = on-refused
@@ -174,14 +174,14 @@ head-filled start end (tree k x y f g) t b =
     }
 
 heads-fills : (at : ℕ) (o : Out) (write : List ℕ → List ℕ) → Fills write o
-    → Fills (λ t. head-table at (as-step o) (write t)) (then o (λ e f. took e (headed at e f)))
+    → Fills (λ t. head-table at (as-step o) (write t)) (followed-by o (λ e f. took e (headed at e f)))
 heads-fills at (took e f) write x =
     on-took (λ t h. head-filled at e f (write t) (at-took x refl t (subst (λ (n : ℕ). 4 * n ≤ length t) (size-headed at e f) h)))
 heads-fills at (more w) write x = on-more tt
 heads-fills at refused write x = on-refused
 heads-fills at deep write x = on-deep
 
-dropped-fills : (o : Out) → Fills (λ t. t) (then o (λ e f. took e none))
+dropped-fills : (o : Out) → Fills (λ t. t) (followed-by o (λ e f. took e none))
 unfolding words
 dropped-fills (took e f) = on-took (λ t h. record { rest = t; is = refl })
 dropped-fills (more w) = on-more tt
@@ -189,14 +189,14 @@ dropped-fills refused = on-refused
 dropped-fills deep = on-deep
 
 act-fills : (a : Act) (at : ℕ) (o : Out) (write : List ℕ → List ℕ) → Fills write o
-    → Fills (λ t. act-table a at o write t) (then o (λ e f. took e (act a at e f)))
+    → Fills (λ t. act-table a at o write t) (followed-by o (λ e f. took e (act a at e f)))
 unfolding act act-table
 act-fills (node kind) at o write x = node-fills kind at o write x
 act-fills listed at o write x = list-fills o write x
 act-fills heads at o write x = heads-fills at o write x
-act-fills range at o write x = lone-fills (then o (λ e f. took e (as-range f))) (made-lone o (λ e f. as-range f) (λ e f. range-single f))
+act-fills range at o write x = lone-fills (followed-by o (λ e f. took e (as-range f))) (made-lone o (λ e f. as-range f) (λ e f. range-single f))
 act-fills uid-range at o write x =
-    lone-fills (then o (λ e f. took e (as-uid-range f))) (made-lone o (λ e f. as-uid-range f) (λ e f. uid-range-single f))
+    lone-fills (followed-by o (λ e f. took e (as-uid-range f))) (made-lone o (λ e f. as-uid-range f) (λ e f. uid-range-single f))
 act-fills dropped at o write x = dropped-fills o
 
 -- one after another -------------------------------------------------------------------------------------------------------------
@@ -222,7 +222,7 @@ beside-filled f f′ write t u l p q h =
 
 seq-fills : (o : Out) (next : ℕ → Out) (write : List ℕ → List ℕ) (write′ : ℕ → List ℕ → List ℕ)
     → ((t : List ℕ) → length (write t) ≡ length t) → Fills write o → ((e : ℕ) → Fills (write′ e) (next e))
-    → Fills (λ t. then-table (as-step o) (write t) (λ e n. onward n (write′ e) (write t))) (then o (λ e f. with-before f (next e)))
+    → Fills (λ t. then-table (as-step o) (write t) (λ e n. onward n (write′ e) (write t))) (followed-by o (λ e f. with-before f (next e)))
 seq-fills (took e f) next write write′ keeps x y =
     on-then (y e) (λ e′ f′ q. on-took (λ t. beside-filled f f′ (write′ e) t (write t) (keeps t) (at-took x refl t) q)) (λ w u. u)
 seq-fills (more w) next write write′ keeps x y = on-more tt
@@ -269,18 +269,18 @@ module _ (item : ℕ → Out) (write : ℕ → List ℕ → List ℕ) (keeps : (
       → FillsAfter n (λ t. then-table (as-step o) (onward n (write at) t) (λ e m. go e m (onward n (write at) t))) (again o at next)
   unfolding words
   turn-fills (took e f) at n next go x y =
-      pick-ind (FillsAfter n (λ t. go e (size f) (onward n (write at) t))) (ltb at e) _ _
+      branch-ind (FillsAfter n (λ t. go e (size f) (onward n (write at) t))) (ltb at e) _ _
       (λ u. on-then (y e (size f)) (λ e′ f′ q. on-took (turn-after n e f f′ at (go e (size f)) (at-took x refl) q)) (λ w v. v))
       (λ u. on-refused)
   turn-fills (more w) at n next go x y = on-more tt
   turn-fills refused at n next go x y = on-took (λ W X l h. record { rest = write at X; is = onward-at n (write at) W X l })
   turn-fills deep at n next go x y = on-deep
 
-  repeat-fills : (turns at n : ℕ) → FillsAfter n (λ t. repeat-table turns (λ i. as-step (item i)) write at n t) (repeat turns item at)
-  unfolding repeat repeat-table
+  repeat-fills : (turns at n : ℕ) → FillsAfter n (λ t. repeat-table turns (λ i. as-step (item i)) write at n t) (repeated turns item at)
+  unfolding repeated repeat-table
   repeat-fills zero at n = on-refused
   repeat-fills (suc turns) at n =
-      turn-fills (item at) at n (λ e. repeat turns item e) (λ e m t. repeat-table turns (λ i. as-step (item i)) write e (m + n) t)
+      turn-fills (item at) at n (λ e. repeated turns item e) (λ e m t. repeat-table turns (λ i. as-step (item i)) write e (m + n) t)
       (fills at) (λ e m. repeat-fills turns e (m + n))
 
 -- THE THEOREM: for every grammar, at every table ----------------------------------------------------------------------------
@@ -305,7 +305,7 @@ module _ (inner : Inner → Reader) (below : Inner → Filler) (keeps : (n : Inn
       (λ e f p t h. let x = p [] t refl h in record { rest = x .rest; is = x .is }) (λ w u. u)
   filled (does a g) s at = act-fills a at (run inner g s at) (λ t. fill-with inner below g s at t) (filled g s at)
   filled (entry g) s at =
-      on-then (filled g s at) (λ e f p. pick-ind (Fills (λ t. fill-with inner below g s at t)) (check-entry-name (named f (take e s))) _ _
+      on-then (filled g s at) (λ e f p. branch-ind (Fills (λ t. fill-with inner below g s at t)) (check-entry-name (named f (take e s))) _ _
       (λ u. on-took p) (λ u. on-refused)) (λ w u. u)
   filled (ref n) s at = fills n s at
 
@@ -313,7 +313,7 @@ levels-filled : (d : ℕ) (n : Inner) (s : List ℕ) (at : ℕ) → Fills (fill-
 unfolding levels fill-levels
 levels-filled zero n s at = too-deep-fills (leaf-at (tag (ascii "(")) s at)
   where
-    too-deep-fills : (o : Out) → Fills (λ t. t) (then o (λ e f. deep))
+    too-deep-fills : (o : Out) → Fills (λ t. t) (followed-by o (λ e f. deep))
     too-deep-fills (took e f) = on-deep
     too-deep-fills (more w) = on-more tt
     too-deep-fills refused = on-refused

@@ -3,7 +3,7 @@
 use Prim.Native.Nat.{ℕ, zero, suc, _+_}
 use mathlib.Core.List.{List}
 use lib.ListN.{length}
-use Rattle.grammar.specs.Out.{Out, took, then}
+use Rattle.grammar.specs.Out.{Out, took, followed-by}
 use Rattle.grammar.specs.Scan.{leaf-at, literal-at}
 use Rattle.grammar.specs.Grammar.{Act, node, listed, heads, range, uid-range, dropped, act, Inner, G, leaf, literal, nothing, mark, seq, alt, star, does, entry, ref, Reader, run}
 use Rattle.grammar.specs.BodyStructure.{grammar}
@@ -22,8 +22,8 @@ unfoldable pub act-table : Act → ℕ → Out → (List ℕ → List ℕ) → L
 act-table (node kind) at o below t = parent-table kind at (as-step o) (onward 1 below t)
 act-table listed at o below t = list-table o (onward 1 below t)
 act-table heads at o below t = head-table at (as-step o) (below t)
-act-table range at o below t = lay (then o (λ end f. took end (act range at end f))) t
-act-table uid-range at o below t = lay (then o (λ end f. took end (act uid-range at end f))) t
+act-table range at o below t = lay (followed-by o (λ end f. took end (act range at end f))) t
+act-table uid-range at o below t = lay (followed-by o (λ end f. took end (act uid-range at end f))) t
 act-table dropped at o below t = t
 
 -- the turns of a repetition, each item after the n nodes so far

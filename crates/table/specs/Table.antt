@@ -4,7 +4,7 @@ use mathlib.Core.List.{List, _∷_, _++_}
 use lib.ListN.{length, take, drop, getD}
 use lib.Dec.{leb}
 use Rattle.grammar.specs.Forest.{Forest, none, tree, size, count}
-use Rattle.grammar.specs.Out.{Out, took, more, refused, deep, pick}
+use Rattle.grammar.specs.Out.{Out, took, more, refused, deep, branch}
 use Rattle.grammar.specs.Kinds.{kind-list}
 use Rattle.table.specs.declared.Step.{Step}
 use Rattle.table.specs.declared.Step.the-variants.{Took, More, Refused, Deep}
@@ -47,11 +47,11 @@ add-nodes n Deep = Deep
 
 -- where the words after n nodes begin in a table of len words, or its end
 unfoldable pub skip-to : ℕ → ℕ → ℕ
-skip-to len n = pick (leb n (len / 4)) (λ u. 4 * n) (λ u. len)
+skip-to len n = branch (leb n (len / 4)) (λ u. 4 * n) (λ u. len)
 
 -- a node's words at the front of t, if t has room for them
 unfoldable pub over : ℕ → ℕ → ℕ → ℕ → List ℕ → List ℕ
-over kind a b n t = pick (leb 4 (length t)) (λ u. kind ∷ a ∷ b ∷ n ∷ drop 4 t) (λ u. t)
+over kind a b n t = branch (leb 4 (length t)) (λ u. kind ∷ a ∷ b ∷ n ∷ drop 4 t) (λ u. t)
 
 -- the table with its rest, from n nodes on, as f leaves it
 unfoldable pub onward : ℕ → (List ℕ → List ℕ) → List ℕ → List ℕ
@@ -83,7 +83,7 @@ list-table deep t = t
 
 -- the first node's words with another start, end and number of nodes, if t has room for a node
 unfoldable pub rehead : ℕ → ℕ → ℕ → List ℕ → List ℕ
-rehead start end n t = pick (leb 4 (length t)) (λ u. getD t 0 0 ∷ start ∷ end ∷ n ∷ drop 4 t) (λ u. t)
+rehead start end n t = branch (leb 4 (length t)) (λ u. getD t 0 0 ∷ start ∷ end ∷ n ∷ drop 4 t) (λ u. t)
 
 abbrev pub head-table : ℕ → Step → List ℕ → List ℕ
 head-table at r t = then-table r t (λ next nodes. rehead at next nodes t)

@@ -8,10 +8,11 @@ use lib.Dec.{ltb, leb, eqb}
 use denote.Ref.{RefT, now}
 use borrow.Author.Tests.{le-ltb, lt-ltb, eq-eqb, ne-eqb, le-leb, lt-leb, leb-true}
 use Rattle.grammar.specs.Kinds.{kind-bytes}
-use Rattle.grammar.specs.Reading.{room}
+use Rattle.grammar.specs.Reading.{room, kind-word, a-word, b-word}
+use Rattle.grammar.proofs.Tests.{one-result}
 use Rattle.views.specs.declared.Part.{Part}
 use Rattle.views.specs.declared.Part.the-variants.{Found, Missing}
-use Rattle.views.specs.View.{kind-word, start-word, end-word, found-if, part-at, Viewed}
+use Rattle.views.specs.View.{found-if, part-at, Viewed}
 
 -- the ways through the tests ----------------------------------------------------------------------------------------
 
@@ -25,8 +26,8 @@ module _ (len : ℕ) (t : List ℕ) (node : ℕ) where
   other-kind h k = simp (lt-ltb node (room t) h, ne-eqb (kind-word t node) kind-bytes k)
 
   -- the range of a bytes node, read from its words
-  module _ {start end : ℕ} (h : node < room t) (k : kind-word t node ≡ kind-bytes) (a : start ≡ start-word t node)
-      (b : end ≡ end-word t node) where
+  module _ {start end : ℕ} (h : node < room t) (k : kind-word t node ≡ kind-bytes) (a : start ≡ a-word t node)
+      (b : end ≡ b-word t node) where
     pub start-exceeds : end < start → Missing ≡ part-at len t node
     unfolding part-at
     start-exceeds l =
@@ -71,7 +72,7 @@ pub part-within : (len : ℕ) (t : List ℕ) (node : ℕ) {p : Part} {start end 
     → Within len start end
 unfolding part-at
 part-within len t node is q =
-    both-tests (ltb node (room t)) (eqb (kind-word t node) kind-bytes) (start-word t node) (end-word t node) len (sym is ∙ q)
+    both-tests (ltb node (room t)) (eqb (kind-word t node) kind-bytes) (a-word t node) (b-word t node) len (sym is ∙ q)
 
 -- a view of the part that was found, by the code's test and by the definition
 pub viewed-as : {s r : RefT (List ℕ)} {p q d : Part} → q ≡ p → q ≡ d → Viewed s r p → Viewed s r d
@@ -84,10 +85,7 @@ empty-view s r none same =
 
 -- the promises leave no choice --------------------------------------------------------------------------------------
 
--- any two results of `part_at`, or of `view_answer`, that its promise allows are equal
-pub one-result : {A : Type 0} {r q promised : A} → r ≡ promised → q ≡ promised → r ≡ q
-one-result r q = r ∙ sym q
-
--- so are the bytes and the place of any two parts that `view` may hand back
+-- The promises of `part_at` and `view_answer` are equations (`one-result`). Of any two parts that `view` may hand back the bytes
+-- are equal, and the place.
 pub one-view : {s v w : RefT (List ℕ)} {p : Part} → Viewed s v p → Viewed s w p → (now v ≡ now w) × (v .ptr ≡ w .ptr)
 one-view v w = (one-result (v .bytes) (w .bytes), one-result (v .place) (w .place))

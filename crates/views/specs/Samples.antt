@@ -1,4 +1,4 @@
--- Document 01's reading of `"a\"b"`, six bytes: the node names bytes 1 to 5; and each way in which there is no such content.
+-- The sample reading of `"a\"b"`, six bytes: the node names bytes 1 to 5; and each way in which there is no such content.
 use Prim.Native.Nat.{ℕ}
 use mathlib.Core.Path.{_≡_, refl}
 use mathlib.Core.List.{List, [], _∷_}

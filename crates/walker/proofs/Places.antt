@@ -1,4 +1,5 @@
--- What the walk's functions find, as laws that their proofs cite; true of any table.
+-- What the walk's functions find, as laws that their proofs cite; true of any table. (Every promise of this crate is an equation,
+-- so that any two results which it allows are equal: `one-result`, crates/grammar/proofs/Tests.antt.)
 use Prim.Native.Nat.{ℕ, zero, suc, _+_, _-_, _≤_, _<_}
 use mathlib.Core.Path.{_≡_, refl, sym, _∙_}
 use mathlib.Core.Bool.{_&&_}
@@ -9,12 +10,12 @@ use lib.Dec.{T, leb, eqb, leb→le, eqb→eq}
 use types.Run.{OneOf}
 use denote.Enum.Declared.{tagOf}
 use borrow.Author.Tests.{le-ltb, lt-ltb, le-leb, eq-eqb, ne-eqb}
-use Rattle.grammar.specs.Reading.{room}
-use Rattle.grammar.proofs.Tests.{pick-ind, T-left, T-right}
+use Rattle.grammar.specs.Reading.{room, kind-word, a-word, b-word, nodes-word}
+use Rattle.grammar.proofs.Tests.{branch-ind, T-left, T-right}
 use Rattle.walker.specs.declared.Node.the-variants.{Words, Outside}
 use Rattle.walker.specs.declared.Place.{Place}
 use Rattle.walker.specs.declared.Place.the-variants.{At, Nothing, Wrong}
-use Rattle.walker.specs.Walk.{kind-word, a-word, b-word, nodes-word, node-at, kind-at, then-place, proper-tree, tree-end}
+use Rattle.walker.specs.Walk.{node-at, kind-at, then-place, proper-tree, tree-end}
 use Rattle.walker.specs.Walk.{tree-at, end-of, first-child, next-sibling, nth-tree}
 use Rattle.walker.proofs.Place as Place-type
 
@@ -104,8 +105,8 @@ module _ (t : List ℕ) (at limit : ℕ) where
   pub found-tree : {p : Place} {end : ℕ} → p ≡ tree-end t at limit → p ≡ At end → Tree t at end limit
   unfolding tree-end
   found-tree {p} {end} is q =
-      pick-ind (λ o. o ≡ At end → Tree t at end limit) (eqb at limit) _ _ (λ u r. nothing-at r)
-      (λ u. pick-ind (λ o. o ≡ At end → Tree t at end limit) (proper-tree t at limit) _ _ (λ v r. is-end (tested v) r)
+      branch-ind (λ o. o ≡ At end → Tree t at end limit) (eqb at limit) _ _ (λ u r. nothing-at r)
+      (λ u. branch-ind (λ o. o ≡ At end → Tree t at end limit) (proper-tree t at limit) _ _ (λ v r. is-end (tested v) r)
       (λ v r. wrong-at r)) (sym is ∙ q)
     where
       is-end : {e : ℕ} → Tree t at e limit → At e ≡ At end → Tree t at end limit
@@ -120,8 +121,8 @@ module _ (t : List ℕ) (at limit : ℕ) where
   pub no-tree : (at ≡ limit → ⊥) → (Tree t at (at + nodes-word t at) limit → ⊥) → Wrong ≡ tree-end t at limit
   unfolding tree-end
   no-tree not-limit not-tree =
-      pick-ind (λ p. Wrong ≡ p) (eqb at limit) _ _ (λ u. absurd (not-limit (eqb→eq at limit u)))
-      (λ u. pick-ind (λ p. Wrong ≡ p) (proper-tree t at limit) _ _ (λ v. absurd (not-tree (tested v))) (λ v. refl))
+      branch-ind (λ p. Wrong ≡ p) (eqb at limit) _ _ (λ u. absurd (not-limit (eqb→eq at limit u)))
+      (λ u. branch-ind (λ p. Wrong ≡ p) (proper-tree t at limit) _ _ (λ v. absurd (not-tree (tested v))) (λ v. refl))
 
 -- FORWARD: on any table whatever it holds, a place found lies further on and before the limit, so every walk ends ------
 
@@ -188,9 +189,3 @@ pub nth-none : (n : ℕ) (t : List ℕ) (at limit : ℕ) → n ≤ 0 → tree-at
 unfolding nth-tree
 nth-none zero t at limit h = refl
 nth-none (suc n) t at limit h = absurd (omega arith)
-
--- the promises leave no choice --------------------------------------------------------------------------------------
-
--- every promise of this crate says `r ≡ promised`, so that any two results which it allows are equal
-pub one-result : {A : Type 0} {r q promised : A} → r ≡ promised → q ≡ promised → r ≡ q
-one-result r q = r ∙ sym q

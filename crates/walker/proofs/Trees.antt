@@ -8,14 +8,14 @@ use lib.Dec.{leb}
 use lib.Seq.{drop-at, drop-drop, getD-drop}
 use Rattle.grammar.specs.Forest.{Forest, none, tree, size, words}
 use Rattle.grammar.specs.Out.{Out, took, more, refused, deep}
-use Rattle.grammar.specs.Reading.{Result, room, node-words, known-rule, length-limit, deepest-level, reading, settled}
+use Rattle.grammar.specs.Reading.{kind-word, a-word, b-word, nodes-word, Result, room, node-words, known-rule, length-limit, deepest-level, reading, settled}
 use Rattle.grammar.specs.Reading.{result-at, result}
-use Rattle.grammar.proofs.Tests.{pick-ind, apart}
+use Rattle.grammar.proofs.Tests.{branch-ind, apart}
 use Rattle.grammar.proofs.Forests.{length-words}
 use Rattle.walker.specs.declared.Node.the-variants.{Words}
 use Rattle.walker.specs.declared.Place.{Place}
 use Rattle.walker.specs.declared.Place.the-variants.{At, Nothing, Wrong}
-use Rattle.walker.specs.Walk.{kind-word, a-word, b-word, nodes-word, node-at, tree-end, end-of, tree-at, first-child}
+use Rattle.walker.specs.Walk.{node-at, tree-end, end-of, tree-at, first-child}
 use Rattle.walker.specs.Walk.{next-sibling, nth-tree, nth-child, then-place}
 use Rattle.walker.specs.Trees.{Stands, place-of, without, nodes-before, places, walk}
 use Rattle.walker.proofs.Places.{Tree, node-inside, end-found, found-tree, limit-reached, goes-on}
@@ -219,7 +219,7 @@ If-accepted o r = r .answer ≡ 0 → Leaves o r
 
 settled-leaves : (t : List ℕ) (o : Out) → If-accepted o (settled t o)
 settled-leaves t (took end f) =
-    pick-ind (If-accepted (took end f)) (leb (size f) (room t)) _ _
+    branch-ind (If-accepted (took end f)) (leb (size f) (room t)) _ _
     (λ u q. record { forest = f; read = refl; counted = refl; stands = stands-first f (drop (node-words (size f)) t) })
     (λ u q. absurd (apart 4 0 tt q))
 settled-leaves t (more w) = λ q. absurd (apart 1 0 tt q)
@@ -232,8 +232,8 @@ pub accepted-leaves : (n : ℕ) (s t : List ℕ) → result n s t .answer ≡ 0
 unfolding result result-at
 accepted-leaves n s t =
     let o = reading deepest-level n s in
-    pick-ind (If-accepted o) (known-rule n) _ _
-    (λ u. pick-ind (If-accepted o) (leb (length s) length-limit) _ _ (λ v. settled-leaves t o) (λ v q. absurd (apart 6 0 tt q)))
+    branch-ind (If-accepted o) (known-rule n) _ _
+    (λ u. branch-ind (If-accepted o) (leb (length s) length-limit) _ _ (λ v. settled-leaves t o) (λ v q. absurd (apart 6 0 tt q)))
     (λ u q. absurd (apart 5 0 tt q))
 
 -- so a walk of as many steps as it made nodes visits them all, once and in order

@@ -1,4 +1,4 @@
--- Document 01's reading of `4:2,7` as a uid set: a list of a range and a single uid, walked; and the same table made wrong.
+-- The sample reading of `4:2,7` as a uid set: a list of a range and a single uid, walked; and the same table made wrong.
 use Prim.Native.Nat.{ℕ}
 use mathlib.Core.Path.{_≡_, refl}
 use mathlib.Core.List.{List, [], _∷_}

@@ -1,11 +1,10 @@
 -- What the walk's functions answer, on any table whatever it holds. Places are indexes of nodes.
-use Prim.Native.Nat.{ℕ, zero, suc, _+_, _*_}
+use Prim.Native.Nat.{ℕ, zero, suc, _+_}
 use mathlib.Core.Bool.{Bool, _&&_}
 use mathlib.Core.List.{List}
-use lib.ListN.{getD}
 use lib.Dec.{ltb, leb, eqb}
-use Rattle.grammar.specs.Out.{pick}
-use Rattle.grammar.specs.Reading.{room}
+use Rattle.grammar.specs.Out.{branch}
+use Rattle.grammar.specs.Reading.{room, kind-word, a-word, b-word, nodes-word}
 use Rattle.walker.specs.declared.Node.{Node}
 use Rattle.walker.specs.declared.Node.the-variants.{Words, Outside}
 use Rattle.walker.specs.declared.Place.{Place}
@@ -13,25 +12,12 @@ use Rattle.walker.specs.declared.Place.the-variants.{At, Nothing, Wrong}
 
 -- a node's words ----------------------------------------------------------------------------------------------------
 
-abbrev pub kind-word : List ℕ → ℕ → ℕ
-kind-word t at = getD t (4 * at) 0
-
-abbrev pub a-word : List ℕ → ℕ → ℕ
-a-word t at = getD t (4 * at + 1) 0
-
-abbrev pub b-word : List ℕ → ℕ → ℕ
-b-word t at = getD t (4 * at + 2) 0
-
--- the nodes in its subtree, itself included
-abbrev pub nodes-word : List ℕ → ℕ → ℕ
-nodes-word t at = getD t (4 * at + 3) 0
-
 unfoldable pub node-at : List ℕ → ℕ → Node
 node-at t at =
-    pick (ltb at (room t)) (λ u. Words (kind-word t at) (a-word t at) (b-word t at) (nodes-word t at)) (λ u. Outside)
+    branch (ltb at (room t)) (λ u. Words (kind-word t at) (a-word t at) (b-word t at) (nodes-word t at)) (λ u. Outside)
 
 unfoldable pub kind-at : List ℕ → ℕ → ℕ
-kind-at t at = pick (ltb at (room t)) (λ u. kind-word t at) (λ u. 0)
+kind-at t at = branch (ltb at (room t)) (λ u. kind-word t at) (λ u. 0)
 
 -- trees -------------------------------------------------------------------------------------------------------------
 
@@ -51,7 +37,7 @@ proper-tree t at limit =
 unfoldable pub tree-end : List ℕ → ℕ → ℕ → Place
 unfolding proper-tree
 tree-end t at limit =
-    pick (eqb at limit) (λ u. Nothing) (λ u. pick (proper-tree t at limit) (λ v. At (at + nodes-word t at)) (λ v. Wrong))
+    branch (eqb at limit) (λ u. Nothing) (λ u. branch (proper-tree t at limit) (λ v. At (at + nodes-word t at)) (λ v. Wrong))
 
 -- that tree's own place
 unfoldable pub tree-at : List ℕ → ℕ → ℕ → Place

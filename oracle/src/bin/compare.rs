@@ -50,7 +50,7 @@ fn read(table: &mut Vec<u32>, rule: u32, s: &[u8], words: usize) -> Four {
     ours::read(rule, s, table)
 }
 
-/// What document 01 says of a call with such a table: the numbers, and the table after it.
+/// What docs/RULES.md says of a call with such a table: the numbers, and the table after it.
 fn expected(rule: u32, s: &[u8], r: &model::Reading, words: usize) -> Four {
     let mut f = Four::default();
     if !(1..=25).contains(&rule) {
@@ -89,12 +89,12 @@ fn compare(table: &mut Vec<u32>, rule: u32, s: &[u8], words: impl FnOnce(usize) 
     let by_model = expected(rule, s, &m, words);
     let unknown = |why: &str, ours: String, rust: String| Some((false, why.to_string(), ours, rust));
     if f != by_model {
-        let why = "our numbers are not what the model of document 01 says";
+        let why = "our numbers are not what the model of docs/RULES.md says";
         let model = format!("{}; the model: {}", oracle(rule, s).name(), by_model.answer);
         return (f, unknown(why, f.answer.to_string(), model));
     }
     if !table_is(table, &f, &m.nodes) {
-        let why = "our table is not what the model of document 01 says";
+        let why = "our table is not what the model of docs/RULES.md says";
         return (f, unknown(why, f.answer.to_string(), oracle(rule, s).name().into()));
     }
     let ours = f.answer.to_string();

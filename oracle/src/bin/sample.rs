@@ -21,7 +21,7 @@ struct Words {
     model: u64,
 }
 
-/// Document 01's words, from the Rust's tree; the model's nodes give what the Rust does not keep.
+/// The words of docs/RULES.md, from the Rust's tree; the model's nodes give what the Rust does not keep.
 fn words(tree: &Tree, nodes: &[Node], at: &mut usize, out: &mut Vec<Node>, who: &mut Words) {
     let [kind, a, b, size] = nodes[*at];
     *at += 1;
@@ -80,7 +80,7 @@ fn case(rule: u32, bytes: Vec<u8>, words_given: impl FnOnce(usize) -> usize) -> 
     let mut nodes = m.nodes.clone();
     let mut taken = f.taken;
     let origin = if f.answer == 5 {
-        "document 01: no such rule".to_string()
+        "docs/RULES.md: no such rule".to_string()
     } else {
         let rust = oracle(rule, &bytes);
         let reading = model::Four { answer: if f.answer == 4 { 0 } else { f.answer }, ..f };
@@ -99,12 +99,12 @@ fn case(rule: u32, bytes: Vec<u8>, words_given: impl FnOnce(usize) -> usize) -> 
             (2, Answer::Error) => true,
             _ => false,
         };
-        let room = if f.answer == 4 { "; document 01: no room" } else { "" };
+        let room = if f.answer == 4 { "; docs/RULES.md: no room" } else { "" };
         if same {
             format!("Rust{room}")
         } else {
             let why = known::class(rule, &bytes, &reading, &rust).expect("a difference that docs/DIFFERENCES.md does not name");
-            format!("document 01: {why}; the Rust: {}{room}", rust.name())
+            format!("docs/RULES.md: {why}; the Rust: {}{room}", rust.name())
         }
     };
     assert_eq!(nodes, m.nodes, "the Rust's words and the model's");

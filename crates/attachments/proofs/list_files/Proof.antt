@@ -1,16 +1,16 @@
-use Prim.Native.Nat.{_+_, _-_, _≤_, _<_}
-use lib.ListN.{length}
+use Prim.Native.Nat.{_+_, _-_, _≤_}
 use mathlib.Core.Path.{_≡_}
+use lib.ListN.{length}
 use borrow.Author.Needs.{needs}
 use native.Mathlib.Omega.{arith}
 use Rattle.attachments.proofs.list_files.Statement.{statement}
 use Rattle.attachments.proofs.list_files.Tie as tie
 
 abbrev Inv-loop : tie.InvT-loop
-Inv-loop buf₀ t₀ files i₀ buf t i = (length buf ≡ length buf₀) × (length t ≡ length t₀)
+Inv-loop buf₀ t₀ files status₀ i₀ buf t status i = (length buf ≡ length buf₀) × (length t ≡ length t₀)
 
 abbrev μ-loop : tie.MeasureT-loop
-μ-loop buf₀ t₀ files i₀ buf t i = files - i
+μ-loop buf₀ t₀ files status₀ i₀ buf t status i = files - i
 
 arg-count-requires : tie.Need-arg-count-requires Inv-loop μ-loop
 arg-count-requires c κs = search needs
@@ -21,11 +21,14 @@ loop-holds c = search needs
 list-file-requires : tie.Need-list-file-requires Inv-loop μ-loop
 list-file-requires c κs = search needs
 
+worse-requires : tie.Need-worse-requires Inv-loop μ-loop
+worse-requires c κs = search needs
+
 add-i : tie.Need-add-i Inv-loop μ-loop
-add-i c = omega arith
+add-i c = search needs
 
 loop-less : tie.Need-loop-less Inv-loop μ-loop
-loop-less c = omega arith
+loop-less c = search needs
 
 loop-again : tie.Need-loop-again Inv-loop μ-loop
 loop-again c = search needs
@@ -48,6 +51,7 @@ list-files-spec =
     arg-count-requires
     loop-holds
     list-file-requires
+    worse-requires
     add-i
     loop-less
     loop-again

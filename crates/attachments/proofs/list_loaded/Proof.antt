@@ -13,29 +13,20 @@ use Rattle.attachments.proofs.list_loaded.Tie as tie
 enum-known-loaded : tie.Need-enum-known-loaded
 enum-known-loaded c = search needs
 
-say-bytes-requires : tie.Need-say-bytes-requires
-say-bytes-requires c κs = search needs
-
-slice-aggregate-say : tie.Need-slice-aggregate-say
-slice-aggregate-say c = search needs
-
-say-requires : tie.Need-say-requires
-say-requires c κs = search needs
-
 slice-aggregate-list : tie.Need-slice-aggregate-list
-slice-aggregate-list c = let h : c .before .before .before .before .before .loaded .given .0 .0 ≤ length (now (c .before .before .before .before .before .before .before .before .before .before .args .buf)) = subst (λ (l : Loaded). Loads l (length (now (c .before .before .before .before .before .before .before .before .before .before .args .buf)))) (c .before .before .before .before .before .loaded .given .1) (c .before .before .before .before .before .before .before .before .before .before .pre) in sym (length-take-le (c .before .before .before .before .before .loaded .given .0 .0) (now (c .before .before .before .before .before .before .before .before .before .before .args .buf)) h)
+slice-aggregate-list c = let h : c .before .before .loaded .given .0 .0 ≤ length (now (c .before .before .before .before .before .before .before .args .buf)) = subst (λ (l : Loaded). Loads l (length (now (c .before .before .before .before .before .before .before .args .buf)))) (c .before .before .loaded .given .1) (c .before .before .before .before .before .before .before .pre) in sym (length-take-le (c .before .before .loaded .given .0 .0) (now (c .before .before .before .before .before .before .before .args .buf)) h)
 
 list-requires : tie.Need-list-requires
 list-requires c κs = search needs
-
-enum-told : tie.Need-enum-told
-enum-told c = search needs
 
 same-length : tie.Need-same-length
 same-length c = search needs
 
 returns : tie.Need-returns
 returns c = search needs
+
+enum-told : tie.Need-enum-told
+enum-told c = search needs
 
 returns-2 : tie.Need-returns-2
 returns-2 c = search needs
@@ -45,12 +36,9 @@ list-loaded-spec =
     tie.close
     (tie.spec
     enum-known-loaded
-    say-bytes-requires
-    slice-aggregate-say
-    say-requires
     slice-aggregate-list
     list-requires
-    enum-told
     same-length
     returns
+    enum-told
     returns-2)

@@ -1,5 +1,6 @@
 use denote.Ref.{now}
-use Rattle.command_line.proofs.Laws.{part-counts}
+use mathlib.Core.Path.{sym}
+use lib.Seq.{length-take-le}
 use native.Mathlib.Omega.{arith}
 use borrow.Author.Needs.{needs}
 use Rattle.command_line.proofs.say_cut.Statement.{statement}
@@ -8,11 +9,14 @@ use Rattle.command_line.proofs.say_cut.Tie as tie
 say-quoted-requires : tie.Need-say-quoted-requires
 say-quoted-requires c κs = search needs
 
+same-length : tie.Need-same-length
+same-length c = search needs
+
 returns : tie.Need-returns
 returns c = search needs
 
 slice-aggregate-say-quoted : tie.Need-slice-aggregate-say-quoted
-slice-aggregate-say-quoted c = part-counts (now (c .before .before .before .args .s)) 60 (c .before .if1 .left)
+slice-aggregate-say-quoted c = sym (length-take-le 60 (now (c .before .before .before .before .before .args .s)) (omega arith))
 
 say-quoted-requires-2 : tie.Need-say-quoted-requires-2
 say-quoted-requires-2 c κs = search needs
@@ -32,6 +36,9 @@ slice-aggregate-say-2 c = search needs
 say-requires-2 : tie.Need-say-requires-2
 say-requires-2 c κs = search needs
 
+same-length-2 : tie.Need-same-length-2
+same-length-2 c = search needs
+
 returns-2 : tie.Need-returns-2
 returns-2 c = search needs
 
@@ -40,6 +47,7 @@ say-cut-spec =
     tie.close
     (tie.spec
     say-quoted-requires
+    same-length
     returns
     slice-aggregate-say-quoted
     say-quoted-requires-2
@@ -48,4 +56,5 @@ say-cut-spec =
     say-number-requires
     slice-aggregate-say-2
     say-requires-2
+    same-length-2
     returns-2)

@@ -1,14 +1,22 @@
-use Prim.Native.Nat.{_+_, _-_, _≤_, _<_}
+use Prim.Native.Nat.{_+_, _-_, _≤_}
+use mathlib.Core.Path.{_≡_}
+use lib.ListN.{length}
 use borrow.Author.Needs.{needs}
 use native.Mathlib.Omega.{arith}
 use Rattle.read_response.proofs.say_tree.Statement.{statement}
 use Rattle.read_response.proofs.say_tree.Tie as tie
 
 abbrev Inv-loop : tie.InvT-loop
-Inv-loop s t nodes ends₀ kinds₀ seen₀ depth₀ at₀ ends kinds seen depth at = Unit {0}
+Inv-loop out₀ n s t nodes ends₀ kinds₀ seen₀ depth₀ n₀ at₀ out ends kinds seen depth n' at = (length out ≡ length out₀) × (n' ≤ length out)
 
 abbrev μ-loop : tie.MeasureT-loop
-μ-loop s t nodes ends₀ kinds₀ seen₀ depth₀ at₀ ends kinds seen depth at = nodes - at
+μ-loop out₀ n s t nodes ends₀ kinds₀ seen₀ depth₀ n₀ at₀ out ends kinds seen depth n' at = nodes - at
+
+slice-aggregate-say : tie.Need-slice-aggregate-say Inv-loop μ-loop
+slice-aggregate-say c = search needs
+
+say-requires : tie.Need-say-requires Inv-loop μ-loop
+say-requires c κs = search needs
 
 loop-holds : tie.Need-loop-holds Inv-loop μ-loop
 loop-holds c = search needs
@@ -16,38 +24,29 @@ loop-holds c = search needs
 open-at-requires : tie.Need-open-at-requires Inv-loop μ-loop
 open-at-requires c κs = search needs
 
-say-indent-requires : tie.Need-say-indent-requires Inv-loop μ-loop
-say-indent-requires c κs = search needs
+parent-kind-requires : tie.Need-parent-kind-requires Inv-loop μ-loop
+parent-kind-requires c κs = search needs
 
-say-field-at-requires : tie.Need-say-field-at-requires Inv-loop μ-loop
-say-field-at-requires c κs = search needs
+child-seen-requires : tie.Need-child-seen-requires Inv-loop μ-loop
+child-seen-requires c κs = search needs
 
-say-node-requires : tie.Need-say-node-requires Inv-loop μ-loop
-say-node-requires c κs = search needs
+say-line-requires : tie.Need-say-line-requires Inv-loop μ-loop
+say-line-requires c κs = search needs
 
-kind-at-requires : tie.Need-kind-at-requires Inv-loop μ-loop
-kind-at-requires c κs = search needs
-
-cast-parent : tie.Need-cast-parent Inv-loop μ-loop
-cast-parent c = search needs
-
-parent-requires : tie.Need-parent-requires Inv-loop μ-loop
-parent-requires c κs = search needs
-
-subtree-end-requires : tie.Need-subtree-end-requires Inv-loop μ-loop
-subtree-end-requires c κs = search needs
-
-opened-requires : tie.Need-opened-requires Inv-loop μ-loop
-opened-requires c κs = search needs
+enter-requires : tie.Need-enter-requires Inv-loop μ-loop
+enter-requires c κs = search needs
 
 add-at : tie.Need-add-at Inv-loop μ-loop
-add-at c = omega arith
+add-at c = omega (arith, c .before .before .before .before .before .before .before .before .before .before .before .before .before .before .loop-test .taken, c .before .before .before .before .before .before .before .before .before .before .before .before .before .before .before .before .before .before .before .before .before .before .before .before .good)
 
 loop-less : tie.Need-loop-less Inv-loop μ-loop
-loop-less c = omega arith
+loop-less c = omega (arith, c .before .before .before .before .before .before .before .before .before .before .before .before .before .before .loop-test .taken)
 
 loop-again : tie.Need-loop-again Inv-loop μ-loop
 loop-again c = search needs
+
+same-length : tie.Need-same-length Inv-loop μ-loop
+same-length c = search needs
 
 returns : tie.Need-returns Inv-loop μ-loop
 returns c = search needs
@@ -58,17 +57,16 @@ say-tree-spec =
     (tie.spec
     Inv-loop
     μ-loop
+    slice-aggregate-say
+    say-requires
     loop-holds
     open-at-requires
-    say-indent-requires
-    say-field-at-requires
-    say-node-requires
-    kind-at-requires
-    cast-parent
-    parent-requires
-    subtree-end-requires
-    opened-requires
+    parent-kind-requires
+    child-seen-requires
+    say-line-requires
+    enter-requires
     add-at
     loop-less
     loop-again
+    same-length
     returns)

@@ -14,19 +14,19 @@ enum-known-loaded : tie.Need-enum-known-loaded
 enum-known-loaded c = search needs
 
 slice-aggregate-show : tie.Need-slice-aggregate-show
-slice-aggregate-show c = let h : c .before .before .loaded .given .0 .0 ≤ length (now (c .before .before .before .before .before .before .args .buf)) = subst (λ (l : Loaded). Loads l (length (now (c .before .before .before .before .before .before .args .buf)))) (c .before .before .loaded .given .1) (c .before .before .before .before .before .before .pre) in sym (length-take-le (c .before .before .loaded .given .0 .0) (now (c .before .before .before .before .before .before .args .buf)) h)
+slice-aggregate-show c = let h : c .before .before .loaded .given .0 .0 ≤ length (now (c .before .before .before .before .before .before .before .args .buf)) = subst (λ (l : Loaded). Loads l (length (now (c .before .before .before .before .before .before .before .args .buf)))) (c .before .before .loaded .given .1) (c .before .before .before .before .before .before .before .pre) in sym (length-take-le (c .before .before .loaded .given .0 .0) (now (c .before .before .before .before .before .before .before .args .buf)) h)
 
 show-requires : tie.Need-show-requires
 show-requires c κs = search needs
-
-enum-told : tie.Need-enum-told
-enum-told c = search needs
 
 same-length : tie.Need-same-length
 same-length c = search needs
 
 returns : tie.Need-returns
 returns c = search needs
+
+enum-told : tie.Need-enum-told
+enum-told c = search needs
 
 returns-2 : tie.Need-returns-2
 returns-2 c = search needs
@@ -38,7 +38,7 @@ show-loaded-spec =
     enum-known-loaded
     slice-aggregate-show
     show-requires
-    enum-told
     same-length
     returns
+    enum-told
     returns-2)

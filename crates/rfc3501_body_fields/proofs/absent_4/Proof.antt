@@ -1,5 +1,5 @@
 use borrow.Author.Needs.{needs}
-use Rattle.grammar.specs.BodyStructure.{absent-4}
+use Rattle.grammar.specs.BodyStructure.{absents}
 use Rattle.table.proofs.Bounds.{modest, after}
 use Rattle.table.proofs.Depth.{bare, skim-does, skim-goes}
 use Rattle.table.proofs.Length.{same}
@@ -14,15 +14,15 @@ absent-3-requires : tie.Need-absent-3-requires
 absent-3-requires c κs = search needs
 
 then-mark-requires : tie.Need-then-mark-requires
-unfolding modest bare absent-4
+unfolding modest bare absents
 then-mark-requires c κs = after tt (c .before .before .before .before .before .before .before .pre) (c .before .before .before .absent-3 .ensures) .few
 
 same-length : tie.Need-same-length
-unfolding bare absent-4
+unfolding bare absents
 same-length c = same (goes-on (c .before .before .before .before .before .before .absent-3 .ensures) (mark-goes (c .before .before .then-mark .ensures)))
 
 returns : tie.Need-returns
-unfolding bare absent-4
+unfolding bare absents
 returns c = goes-on (c .before .before .before .before .before .before .absent-3 .ensures) (mark-goes (c .before .before .then-mark .ensures))
 
 pub absent-4-spec : {M : Type 1} → statement M

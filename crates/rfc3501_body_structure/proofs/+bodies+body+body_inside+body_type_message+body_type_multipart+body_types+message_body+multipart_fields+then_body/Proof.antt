@@ -6,7 +6,7 @@ use mathlib.Core.List.{[]}
 use lib.ListN.{length}
 use denote.Ref.{now}
 use Rattle.grammar.specs.Grammar.{ref, a-body}
-use Rattle.grammar.specs.Notation.{_⋯_, _∣_, sp, many1, paren-delimited}
+use Rattle.grammar.specs.Notation.{_⋯_, _or_, sp, many1, paren-delimited}
 use Rattle.grammar.specs.Core.{number, string}
 use Rattle.grammar.specs.BodyStructure.{body-type-message, body-type-basic, body-type-multipart, message-fields, body as body-grammar, grammar}
 use Rattle.table.proofs.Sequence.{goes, goes-on, seq-stop, link-stop, link-done, room-took, few-took}
@@ -438,7 +438,7 @@ body-types-enum-told : (t : ℕ) → body-types-lts.Need-enum-told (body-types-i
 body-types-enum-told t c = search needs
 
 body-types-same-length : (t : ℕ) → body-types-lts.Need-same-length (body-types-in t) (body-types-at t) body-types.Post
-body-types-same-length t c = same (alt-stop (body-type-message ∣ body-type-basic ∣ body-type-multipart) (c .before .before .before .body-type-text .ensures) (c .match .keys2))
+body-types-same-length t c = same (alt-stop (body-type-message or body-type-basic or body-type-multipart) (c .before .before .before .body-type-text .ensures) (c .match .keys2))
 
 body-types-returns : (t : ℕ) → body-types-lts.Need-returns (body-types-in t) (body-types-at t) body-types.Post
 body-types-returns t c = alt-stop _ (c .before .before .before .body-type-text .ensures) (c .match .keys2)
@@ -450,7 +450,7 @@ body-types-enum-told-2 : (t : ℕ) → body-types-lts.Need-enum-told-2 (body-typ
 body-types-enum-told-2 t c = search needs
 
 body-types-same-length-2 : (t : ℕ) → body-types-lts.Need-same-length-2 (body-types-in t) (body-types-at t) body-types.Post
-body-types-same-length-2 t c = same (alt-goes (goes (c .before .before .before .before .before .before .before .before .before .body-type-text .ensures) (c .before .before .before .before .before .enum-told .given .1)) (alt-stop (body-type-basic ∣ body-type-multipart) (c .before .before .before .body-type-message .ensures) (c .match2 .keys2)))
+body-types-same-length-2 t c = same (alt-goes (goes (c .before .before .before .before .before .before .before .before .before .body-type-text .ensures) (c .before .before .before .before .before .enum-told .given .1)) (alt-stop (body-type-basic or body-type-multipart) (c .before .before .before .body-type-message .ensures) (c .match2 .keys2)))
 
 body-types-returns-2 : (t : ℕ) → body-types-lts.Need-returns-2 (body-types-in t) (body-types-at t) body-types.Post
 body-types-returns-2 t c = alt-goes (goes (c .before .before .before .before .before .before .before .before .before .body-type-text .ensures) (c .before .before .before .before .before .enum-told .given .1)) (alt-stop _ (c .before .before .before .body-type-message .ensures) (c .match2 .keys2))

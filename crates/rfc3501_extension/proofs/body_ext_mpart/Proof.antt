@@ -1,5 +1,6 @@
 use borrow.Author.Needs.{needs}
 use Rattle.grammar.specs.BodyStructure.{body-ext-mpart}
+use Rattle.rfc3501_extension.specs.Tails.{from-dsp}
 use Rattle.table.proofs.Depth.{plain, at-depth}
 use Rattle.table.proofs.Sequence.{goes}
 use Rattle.table.proofs.Structure.{alt-stop, alt-goes}
@@ -17,7 +18,7 @@ same-length : tie.Need-same-length
 same-length c = search needs
 
 returns : tie.Need-returns
-unfolding plain body-ext-mpart
+unfolding plain body-ext-mpart from-dsp
 returns c = alt-stop _ (c .before .before .before .param-tail .ensures) (c .match .keys2)
 
 absent-5-requires : tie.Need-absent-5-requires
@@ -27,7 +28,7 @@ same-length-2 : tie.Need-same-length-2
 same-length-2 c = search needs
 
 returns-2 : tie.Need-returns-2
-unfolding plain body-ext-mpart
+unfolding plain body-ext-mpart from-dsp
 returns-2 c = alt-goes (goes (c .before .before .before .before .before .before .before .before .param-tail .ensures) (c .before .before .before .before .enum-told .given .1)) (at-depth (c .before .before .before .before .before .before .before .before .before .before .before .before .args .left) tt (c .before .before .absent-5 .ensures))
 
 pub body-ext-mpart-spec : {M : Type 1} → statement M

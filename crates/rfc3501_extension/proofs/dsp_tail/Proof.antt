@@ -1,6 +1,6 @@
 use borrow.Author.Needs.{needs}
 use Rattle.grammar.specs.BodyStructure.{body-disposition}
-use Rattle.grammar.specs.BodyStructure.{from-lang}
+use Rattle.rfc3501_extension.specs.Tails.{from-lang}
 use Rattle.grammar.specs.Notation.{sp}
 use Rattle.rfc3501_extension.proofs.Levels.{link-depth}
 use Rattle.table.proofs.Bounds.{modest, after}

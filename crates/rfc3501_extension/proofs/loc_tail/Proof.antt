@@ -1,5 +1,5 @@
 use borrow.Author.Needs.{needs}
-use Rattle.grammar.specs.BodyStructure.{from-extension}
+use Rattle.rfc3501_extension.specs.Tails.{from-extension}
 use Rattle.grammar.specs.Core.{nstring}
 use Rattle.grammar.specs.Notation.{sp}
 use Rattle.rfc3501_extension.proofs.Levels.{link-depth}

@@ -1,6 +1,6 @@
 use borrow.Author.Needs.{needs}
 use Rattle.grammar.specs.BodyStructure.{body-param}
-use Rattle.grammar.specs.BodyStructure.{from-dsp}
+use Rattle.rfc3501_extension.specs.Tails.{from-dsp}
 use Rattle.grammar.specs.Notation.{sp}
 use Rattle.rfc3501_extension.proofs.Levels.{link-depth}
 use Rattle.table.proofs.Bounds.{modest, after}
