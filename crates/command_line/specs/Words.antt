@@ -135,6 +135,11 @@ status-of (NoRoom nodes) = 2
 status-of UnknownRule = 3
 status-of TooLong = 2
 
+-- the status once the output is to be written: as it was, or 4 where a write failed
+pub data Sent (status : ℕ) : ℕ → Type 0 where
+  written : Sent status status
+  not-written : Sent status 4
+
 -- files ------------------------------------------------------------------------------------------------------------------
 
 -- what was read fits the buffer

@@ -7,7 +7,7 @@ use walker::Place;
 ghost use mathlib.Core.Path.{_≡_};
 ghost use Prim.Native.Nat.{ℕ, _+_, _≤_, max};
 ghost use lib.ListN.{length};
-ghost use Rattle.command_line.specs.Words.{same-word, parameter, before-dot, cell, find-name, rule-names, decimal, numbered, rule-asked, closed, open-at, Opens, subtree-end, Loads, status-of};
+ghost use Rattle.command_line.specs.Words.{same-word, parameter, before-dot, cell, find-name, rule-names, decimal, numbered, rule-asked, closed, open-at, Opens, subtree-end, Loads, status-of, Sent};
 
 // A rule that was asked for by number or by name.
 pub enum Rule {
@@ -24,7 +24,7 @@ pub enum Loaded {
 // ----- words -----
 
 // The same bytes, ASCII case ignored.
-pub fn same_word(a: &[u8], b: &[u8]) -> bool
+fn same_word(a: &[u8], b: &[u8]) -> bool
     ensures { λ r. ⌜ r ≡ same-word (now (a .entry)) (now (b .entry)) ⌝ }
 {
     if a.len() != b.len() {
@@ -71,7 +71,7 @@ fn before_dot(s: &[u8]) -> &[u8]
 }
 
 // The name in a row; empty where the table has no such row.
-pub fn name_at(names: &[u8], row: usize) -> &[u8]
+fn name_at(names: &[u8], row: usize) -> &[u8]
     ensures { λ r. ⌜ now r ≡ cell (now (names .entry)) row ⌝ }
 {
     if names.len() / 20 <= row {
@@ -81,7 +81,7 @@ pub fn name_at(names: &[u8], row: usize) -> &[u8]
 }
 
 // The first row from row 1 on that has the name, ASCII case ignored; 0 where none has.
-pub fn find_name(names: &[u8], name: &[u8]) -> usize
+fn find_name(names: &[u8], name: &[u8]) -> usize
     ensures { λ r. ⌜ r ≡ find-name (now (names .entry)) (now (name .entry)) ⌝ }
 {
     let mut row: usize = 1;
@@ -294,7 +294,9 @@ pub fn say(out: &mut [u8], n: usize, text: &[u8]) -> usize
 }
 
 // A command's exit status once what waits is written: 4 where that or an earlier write failed, whose errno still stands.
-pub fn sent(command: &[u8], out: &[u8], n: usize, status: u8) -> u8 {
+pub fn sent(command: &[u8], out: &[u8], n: usize, status: u8) -> u8
+    ensures { λ r. ⌜ Sent status r ⌝ }
+{
     if flush(1, out, n) == 0 {
         return status;
     }
