@@ -13,11 +13,11 @@ use Rattle.grammar.specs.Out.{Out, more}
 use Rattle.grammar.specs.Scan.{Leaf, leaf-at, leaf-move, first-state, Move, Scanned, ended, failed, moved, scan, digit, header-move, largest-32, literal-at}
 use Rattle.grammar.specs.Rules.{rule}
 use Rattle.grammar.specs.Reading.{reading}
-use Rattle.grammar.specs.OpenLiteral.{State, free, inside, to-come, start, walk, lacking, Outside, outside, Quiet, free-quiet, cr-quiet, Wants, Open-literal}
+use Rattle.grammar.specs.OpenLiteral.{State, free, inside, to-come, start, walk, lacking, Outside, outside, Wants, Open-literal}
 use Rattle.grammar.proofs.Tests.{branch-ind, either-way, apart, T-left}
 use Rattle.grammar.proofs.On.{On, on-map, on-itself, on-both, at-more}
 use Rattle.grammar.proofs.Scans.{scan-bounds, scan-ind, scan-step, scans-at, Moves, goes-on, ends-after, fails, on-leaf}
-use Rattle.grammar.proofs.Walk.{Reach, reach-trans, reach-det, reach-le, stay, reach-content, reach-walk, Calm, Unfinished, calm-here, calm-trans, walked, walked-all}
+use Rattle.grammar.proofs.Walk.{Quiet, free-quiet, cr-quiet, Reach, reach-trans, reach-det, reach-le, stay, reach-content, reach-walk, Calm, Unfinished, calm-here, calm-trans, walked, walked-all}
 use Rattle.grammar.proofs.Literals.{text-test, Outside as Ends-outside, walk-closed, words-are-text, rule-fine, Announced, header-announces, digit-no-brace}
 use Rattle.grammar.proofs.Closed.{Closed, rule-keeps}
 use Rattle.grammar.proofs.Wanted.{literal-wants, completes}

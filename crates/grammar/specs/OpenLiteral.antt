@@ -59,6 +59,10 @@ unfoldable pub walk : State → List ℕ → State
 walk x [] = x
 walk x (b ∷ s) = walk (step x b) s
 
+-- from the buffer's beginning
+abbrev pub after : List ℕ → State
+after s = walk start s
+
 -- the content bytes that are still to come
 abbrev pub lacking : State → ℕ
 lacking (free state value) = 0
@@ -69,11 +73,6 @@ lacking dead = 0
 -- outside every literal's content, and after no header's CR
 pub data Outside : State → Type 0 where
   outside : {state value : ℕ} → Outside (free state value)
-
--- outside, or after a header's CR
-pub data Quiet : State → Type 0 where
-  free-quiet : {state value : ℕ} → Quiet (free state value)
-  cr-quiet : {value : ℕ} → Quiet (cr value)
 
 -- the literal that is open --------------------------------------------------------------------------------------------------
 
@@ -93,7 +92,7 @@ pub record Open-literal (s : List ℕ) (w : ℕ) : Type 0 where
   -- where it begins, in s, and that by the bytes before it this is in no other literal's content
   pub begins : ℕ
   pub inside : begins < length s
-  pub outside : Outside (walk start (take begins s))
+  pub outside : Outside (after (take begins s))
   pub wants : Wants s begins (suc w)
   -- any w + 1 bytes more are its last ones: begun at that place, with content from that start, it is complete at the new end
   pub complete : (x : List ℕ) → length x ≡ suc w

@@ -9,7 +9,7 @@ use lib.Dec.{T, leb, eqb}
 use Rattle.grammar.specs.Kinds.{kind-bytes, kind-nil, kind-envelope}
 use Rattle.grammar.specs.Scan.{largest-32}
 use Rattle.grammar.specs.Reading.{Result, result, room, node-words, kind-word, a-word, b-word}
-use Rattle.grammar.specs.OpenLiteral.{walk, start, lacking, Open-literal}
+use Rattle.grammar.specs.OpenLiteral.{after, lacking, Open-literal}
 
 -- an accepted reading -----------------------------------------------------------------------------------------------------------
 
@@ -33,7 +33,7 @@ pub record Accepted (s t : List ℕ) (r : Result) : Type 0 where
 -- wanted is what is missing of a literal's content whose line end is read, else 0
 pub record Waits (s : List ℕ) (wanted : ℕ) : Type 0 where
   -- by the bytes alone
-  pub is : wanted ≡ lacking (walk start s)
+  pub is : wanted ≡ lacking (after s)
   -- and where some are wanted, there is the literal that lacks them
   pub of-literal : (w : ℕ) → wanted ≡ suc w → Open-literal s w
 
