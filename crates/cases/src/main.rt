@@ -222,9 +222,16 @@ fn accepted_nodes(answer: Answer) -> usize {
     }
 }
 
+// Where the words behind so many nodes begin, or the table's end.
+fn words_of(len: usize, nodes: usize) -> usize
+    ensures { λ k. ⌜ k ≤ len ⌝ }
+{
+    if nodes <= len / 4 { 4 * nodes } else { len }
+}
+
 // The nodes' words, whether another word changed, and the line's end.
 fn say_table(t: &[u32], nodes: usize) {
-    let k = table::skip(t.len(), nodes);
+    let k = words_of(t.len(), nodes);
     say_words(&t[0..k]);
     if is_touched(&t[k..]) {
         say(b" touched");

@@ -1,5 +1,9 @@
 pub mod Scanning
 pub mod Leaves
+pub mod Runs
+pub mod Numbers
+pub mod Tags
 pub mod Quoting
 pub mod Headers
-pub mod Strings
+pub mod Dispatch
+pub mod Search

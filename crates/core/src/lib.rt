@@ -1,55 +1,36 @@
-//! Numbers, strings and lists: imap-proto 0.17.0's src/core.rs, with places in the buffer for slices and a lent table for values.
-//! A reader `x(s, at, t)` reads one production from a place; a link `then_x(s, r, t)` goes on from the answer r.
+//! Numbers and strings: imap-proto 0.17.0's src/core.rs, with cursors for slices and a lent table for values.
+//! A reader `x(&*s, c, t)` reads one production from a cursor on; a cursor that ended it answers as it is.
 
-use table::Step;
 ghost use mathlib.Core.Path.{_≡_};
 ghost use mathlib.Core.List.{List, [], _∷_};
-ghost use Prim.Native.Nat.{ℕ, _+_, _*_, _≤_};
+ghost use Prim.Native.Nat.{ℕ, _+_, _*_, _≤_, _<_};
 ghost use lib.ListN.{length};
-ghost use Rattle.grammar.specs.Scan.{digit, text-char, quoted-special, list-wildcard, astring-special, astring-char, blank, capital, tag, tag-no-case, take-while1, take-while, astring-chars, text-chars, blanks};
+ghost use lib.Dec.{eqb};
+ghost use Rattle.grammar.specs.Scan.{digit, text-char, quoted-special, list-wildcard, astring-special, astring-char, blank, capital, tag, tag-no-case, take-while1, take-while, quotes, astring-chars, text-chars, blanks};
 ghost use Rattle.grammar.specs.Grammar.{G, leaf, literal, does, node};
-ghost use Rattle.grammar.specs.Notation.{space0, space1};
+ghost use Rattle.grammar.specs.Notation.{_⋯_, sp, skip-opt, space0, space1};
 ghost use Rattle.grammar.specs.Core.{number, number-64, quoted, string, astring, nil, nstring, text};
 ghost use Rattle.grammar.specs.Kinds.{kind-bytes};
-ghost use Rattle.table.specs.Promise.{Room, RoomAfter, Does, Goes, Skims, SkimsOn};
-ghost use Rattle.core.specs.Scanned.{Runs, run0-step, run1-step, value-of, valued-digits, Counts, Noded, Quotes, Headers, Bytes, Places};
-
-// Where a run of bytes of one class ends.
-pub enum Run {
-    End(usize),
-    Short,
-}
+ghost use Rattle.table.specs.Promise.{Room, Stands, Reads, Skips, Placed};
+ghost use Rattle.table.specs.Cursor.{first-failure};
+ghost use Rattle.core.specs.Scanned.{Ends, Opened, value-of, valued-digits, Counts, Counts64, Headers};
 
 // A number's value, as long as it is not too large.
-pub enum Value {
+enum Value {
     Fits(u64),
     Large,
 }
 
 // A run of digits: where it ends and its value; the buffer ends first; no digit, or too large.
-pub enum Numeral {
+enum Numeral {
     Value { next: usize, value: u64 },
-    Short,
-    Wrong,
-}
-
-// A quoted string's content: the place behind its closing quote; the buffer ends first; not the grammar.
-pub enum Quote {
-    End(usize),
-    Short,
-    Wrong,
-}
-
-// A literal's header: where its content starts, and how many bytes it announces.
-pub enum Header {
-    Content { start: usize, count: usize },
     Short,
     Wrong,
 }
 
 // ----- bytes -----
 
-fn is_digit(c: u8) -> bool
+pub fn is_digit(c: u8) -> bool
     ensures { λ r. ⌜ r ≡ digit c ⌝ }
 {
     b'0' <= c && c <= b'9'
@@ -138,141 +119,223 @@ pub fn to_upper(c: u8) -> u8
     c - 32
 }
 
+// Two letters, ASCII case ignored.
+fn same_letter(a: u8, b: u8) -> bool
+    ensures { λ r. ⌜ r ≡ eqb (capital a) (capital b) ⌝ }
+{
+    if a == b {
+        return true;
+    }
+    to_upper(a) == to_upper(b)
+}
+
 // ----- fixed words -----
 
 // Exactly this byte.
-pub fn char(s: &[u8], at: usize, b: u8) -> Step
-    requires { ⌜ Room (now s) at ⌝ }
-    ensures { λ r. ⌜ Skims (leaf (tag (b ∷ []))) (now (s .entry)) at r ⌝ }
+pub fn char(s: &[u8], c: u64, b: u8) -> u64
+    requires { ⌜ Stands 0 (now s) c ⌝ }
+    ensures { λ q. ⌜ Skips (leaf (tag (b ∷ []))) s c q ⌝ }
 {
-    if s.len() <= at {
-        return Step::More(0);
+    if table::FAILED <= c {
+        return c;
     }
-    if s[at] == b {
-        Step::Took {
-            next: at + 1,
-            nodes: 0,
-        }
+    let i = table::place(c);
+    if s.len() <= i {
+        return table::FAILED;
+    }
+    if s[i] == b {
+        table::past(c, 1)
     } else {
-        Step::Refused
+        table::REFUSED
     }
 }
 
 // The bytes of a word, ASCII case ignored.
-pub fn tag_no_case(s: &[u8], at: usize, word: &[u8]) -> Step
-    requires { ⌜ Room (now s) at ⌝ }
+pub fn tag_no_case(s: &[u8], c: u64, word: &[u8]) -> u64
+    requires { ⌜ Stands 0 (now s) c ⌝ }
     requires { ⌜ 1 ≤ length (now word) ⌝ }
-    ensures { λ r. ⌜ Skims (leaf (tag-no-case (now (word .entry)))) (now (s .entry)) at r ⌝ }
+    ensures { λ q. ⌜ Skips (leaf (tag-no-case (now (word .entry)))) s c q ⌝ }
 {
-    let mut i = at;
+    if table::FAILED <= c {
+        return c;
+    }
+    let at = table::place(c);
     let mut j: usize = 0;
     while j < word.len() {
+        let i = at + j;
         if s.len() <= i {
-            return Step::More(0);
+            return table::FAILED;
         }
-        let a = to_upper(s[i]);
-        let b = to_upper(word[j]);
-        if a != b {
-            return Step::Refused;
+        if same_letter(s[i], word[j]) {
+            j += 1;
+        } else {
+            return table::REFUSED;
         }
-        i += 1;
-        j += 1;
     }
-    Step::Took { next: i, nodes: 0 }
+    table::past(c, word.len())
 }
 
-// ----- runs -----
+// ----- runs: where one ends -----
 
-// Where the spaces and tabs from a place on end.
-fn space_end(s: &[u8], at: usize) -> Run
+// Spaces and tabs.
+fn space_end(s: &[u8], at: usize) -> u64
     requires { ⌜ Room (now s) at ⌝ }
-    ensures { λ r. ⌜ Runs blanks (now (s .entry)) at r ⌝ }
+    ensures { λ r. ⌜ Ends (take-while blanks) (now (s .entry)) at r ⌝ }
 {
     let mut i = at;
     while i < s.len() {
         if is_space(s[i]) {
             i += 1;
         } else {
-            return Run::End(i);
+            return i as u64;
         }
     }
-    Run::Short
+    table::FAILED
 }
 
-// Where the bytes of an atom end.
-pub fn astring_end(s: &[u8], at: usize) -> Run
+// The bytes of an atom.
+pub fn astring_end(s: &[u8], at: usize) -> u64
     requires { ⌜ Room (now s) at ⌝ }
-    ensures { λ r. ⌜ Runs astring-chars (now (s .entry)) at r ⌝ }
+    ensures { λ r. ⌜ Ends (take-while astring-chars) (now (s .entry)) at r ⌝ }
 {
     let mut i = at;
     while i < s.len() {
         if is_astring_char(s[i]) {
             i += 1;
         } else {
-            return Run::End(i);
+            return i as u64;
         }
     }
-    Run::Short
+    table::FAILED
 }
 
-// Where text ends.
-fn text_end(s: &[u8], at: usize) -> Run
+// Text.
+fn text_end(s: &[u8], at: usize) -> u64
     requires { ⌜ Room (now s) at ⌝ }
-    ensures { λ r. ⌜ Runs text-chars (now (s .entry)) at r ⌝ }
+    ensures { λ r. ⌜ Ends (take-while text-chars) (now (s .entry)) at r ⌝ }
 {
     let mut i = at;
     while i < s.len() {
         if is_text_char(s[i]) {
             i += 1;
         } else {
-            return Run::End(i);
+            return i as u64;
         }
     }
-    Run::Short
+    table::FAILED
 }
 
-// A run that may be empty.
-fn run0(run: Run) -> Step
-    ensures { λ r. ⌜ r ≡ run0-step run ⌝ }
+// Spaces and tabs, or none.
+pub fn space0(s: &[u8], c: u64) -> u64
+    requires { ⌜ Stands 0 (now s) c ⌝ }
+    ensures { λ q. ⌜ Skips space0 s c q ⌝ }
 {
-    match run {
-        Run::End(next) => Step::Took { next, nodes: 0 },
-        Run::Short => Step::More(0),
+    if table::FAILED <= c {
+        return c;
     }
-}
-
-// A run of one or more, begun at a place.
-fn run1(run: Run, at: usize) -> Step
-    ensures { λ r. ⌜ r ≡ run1-step at run ⌝ }
-{
-    match run {
-        Run::End(next) => {
-            if next == at {
-                return Step::Refused;
-            }
-            Step::Took { next, nodes: 0 }
-        }
-        Run::Short => Step::More(0),
+    let e = space_end(&*s, table::place(c));
+    if table::FAILED <= e {
+        return e;
     }
+    table::moved(c, e as usize)
 }
 
-pub fn space0(s: &[u8], at: usize) -> Step
-    requires { ⌜ Room (now s) at ⌝ }
-    ensures { λ r. ⌜ Skims space0 (now (s .entry)) at r ⌝ }
+// Spaces and tabs, one or more.
+pub fn space1(s: &[u8], c: u64) -> u64
+    requires { ⌜ Stands 0 (now s) c ⌝ }
+    ensures { λ q. ⌜ Skips space1 s c q ⌝ }
 {
-    let run = space_end(s, at);
-    run0(run)
+    if table::FAILED <= c {
+        return c;
+    }
+    let i = table::place(c);
+    let e = space_end(&*s, i);
+    if table::FAILED <= e {
+        return e;
+    }
+    let next = e as usize;
+    if next == i {
+        return table::REFUSED;
+    }
+    table::moved(c, next)
 }
 
-pub fn space1(s: &[u8], at: usize) -> Step
-    requires { ⌜ Room (now s) at ⌝ }
-    ensures { λ r. ⌜ Skims space1 (now (s .entry)) at r ⌝ }
+// At most one space.
+pub fn opt_space(s: &[u8], c: u64) -> u64
+    requires { ⌜ Stands 0 (now s) c ⌝ }
+    ensures { λ q. ⌜ Skips (skip-opt sp) s c q ⌝ }
 {
-    let run = space_end(s, at);
-    run1(run, at)
+    let q = char(&*s, c, b' ');
+    if q == table::REFUSED { c } else { q }
 }
 
 // ----- number -----
+
+// number = 1*DIGIT, up to 4294967295; a larger one is wrong once its end is seen.
+pub fn digits_32(s: &[u8], at: usize) -> u64
+    requires { ⌜ Room (now s) at ⌝ }
+    ensures { λ d. ⌜ Counts (now (s .entry)) at d ⌝ }
+{
+    if s.len() <= at {
+        return table::FAILED;
+    }
+    let first = s[at];
+    if is_digit(first) {
+        let mut i = at + 1;
+        let mut v = (first - b'0') as u64;
+        while i < s.len() {
+            let b = s[i];
+            if is_digit(b) {
+                // a value that is too large stays so
+                if v <= 4294967295 {
+                    v = v * 10 + (b - b'0') as u64;
+                }
+                i += 1;
+            } else {
+                if 4294967295 < v {
+                    return table::REFUSED;
+                }
+                return table::found(i, v);
+            }
+        }
+        return table::FAILED;
+    }
+    table::REFUSED
+}
+
+// number = 1*DIGIT ; Unsigned 32-bit integer
+pub fn number(s: &[u8], c: u64, t: &mut [u32]) -> u64
+    requires { ⌜ Stands 0 (now s) c ⌝ }
+    ensures { λ q. ⌜ Reads 0 number s c q t ⌝ }
+{
+    if table::FAILED <= c {
+        return c;
+    }
+    let d = digits_32(&*s, table::place(c));
+    if table::FAILED <= d {
+        return d;
+    }
+    table::leaf(
+        t,
+        c,
+        grammar::KIND_NUMBER,
+        table::found_value(d),
+        0,
+        table::found_next(d),
+    )
+}
+
+// SP number
+pub fn sp_number(s: &[u8], c: u64, t: &mut [u32]) -> u64
+    requires { ⌜ Stands 0 (now s) c ⌝ }
+    ensures { λ q. ⌜ Reads 0 (sp ⋯ number) s c q t ⌝ }
+{
+    let r = char(&*s, c, b' ');
+    if table::FAILED <= r {
+        return r;
+    }
+    number(&*s, r, t)
+}
 
 // A value with one more digit.
 fn with_digit(value: Value, d: u64, largest: u64) -> Value
@@ -298,11 +361,11 @@ fn valued(value: Value, next: usize) -> Numeral
     }
 }
 
-// number = 1*DIGIT, up to `largest`; a larger one is wrong once its end is seen.
-pub fn digits(s: &[u8], at: usize, largest: u64) -> Numeral
+// The same as `digits_32`, up to `largest`.
+fn digits(s: &[u8], at: usize, largest: u64) -> Numeral
     requires { ⌜ Room (now s) at ⌝ }
     requires { ⌜ 9 ≤ largest ⌝ }
-    ensures { λ r. ⌜ Counts largest (now (s .entry)) at r ⌝ }
+    ensures { λ r. ⌜ Counts64 largest (now (s .entry)) at r ⌝ }
 {
     if s.len() <= at {
         return Numeral::Short;
@@ -325,65 +388,44 @@ pub fn digits(s: &[u8], at: usize, largest: u64) -> Numeral
     Numeral::Wrong
 }
 
-// A number's node.
-fn number_node(d: Numeral, t: &mut [u32]) -> Step
-    ensures { λ r. ⌜ Noded d r (now (t .entry)) (now (t .exit)) ⌝ }
+// same as `number` but 64-bit
+pub fn number_64(s: &[u8], c: u64, t: &mut [u32]) -> u64
+    requires { ⌜ Stands 0 (now s) c ⌝ }
+    ensures { λ q. ⌜ Reads 0 number-64 s c q t ⌝ }
 {
+    if table::FAILED <= c {
+        return c;
+    }
+    let d = digits(&*s, table::place(c), 18446744073709551615);
     match d {
         Numeral::Value { next, value } => {
-            table::put(
+            table::leaf(
                 t,
+                c,
                 grammar::KIND_NUMBER,
                 (value % 4294967296) as u32,
                 (value / 4294967296) as u32,
-                1,
-            );
-            Step::Took { next, nodes: 1 }
+                next,
+            )
         }
-        Numeral::Short => Step::More(0),
-        Numeral::Wrong => Step::Refused,
+        Numeral::Short => table::FAILED,
+        Numeral::Wrong => table::REFUSED,
     }
-}
-
-// number = 1*DIGIT ; Unsigned 32-bit integer
-pub fn number(s: &[u8], at: usize, t: &mut [u32]) -> Step
-    requires { ⌜ Room (now s) at ⌝ }
-    ensures { λ r. ⌜ Does 0 number (now (s .entry)) at r (now (t .entry)) (now (t .exit)) ⌝ }
-{
-    let d = digits(s, at, 4294967295);
-    number_node(d, t)
-}
-
-// same as `number` but 64-bit
-pub fn number_64(s: &[u8], at: usize, t: &mut [u32]) -> Step
-    requires { ⌜ Room (now s) at ⌝ }
-    ensures { λ r. ⌜ Does 0 number-64 (now (s .entry)) at r (now (t .entry)) (now (t .exit)) ⌝ }
-{
-    let d = digits(s, at, 18446744073709551615);
-    number_node(d, t)
 }
 
 // ----- string -----
 
-// A node of bytes.
-pub fn bytes_node(t: &mut [u32], start: usize, end: usize, next: usize) -> Step
-    requires { ⌜ Places start end ⌝ }
-    ensures { λ r. ⌜ Bytes start end next r (now (t .entry)) (now (t .exit)) ⌝ }
-{
-    table::put(t, grammar::KIND_BYTES, start as u32, end as u32, 1);
-    Step::Took { next, nodes: 1 }
-}
-
-// The end of a quoted string, from behind its opening quote on: runs of text, and between two of them an escape.
-pub fn quoted_end(s: &[u8], at: usize) -> Quote
+// The end of a quoted string that opens at a place: runs of text, and between two of them an escape.
+pub fn quoted_end(s: &[u8], at: usize) -> u64
     requires { ⌜ Room (now s) at ⌝ }
-    ensures { λ r. ⌜ Quotes (now (s .entry)) at r ⌝ }
+    requires { ⌜ Opened (now s) at ⌝ }
+    ensures { λ r. ⌜ Ends quotes (now (s .entry)) at r ⌝ }
 {
-    let mut i = at;
+    let mut i = at + 1;
     'scan: loop {
         loop {
             if s.len() <= i {
-                return Quote::Short;
+                return table::FAILED;
             }
             let b = s[i];
             if b == b'"' {
@@ -400,7 +442,7 @@ pub fn quoted_end(s: &[u8], at: usize) -> Quote
         }
         let j = i + 1;
         if s.len() <= j {
-            return Quote::Short;
+            return table::FAILED;
         }
         if is_quoted_specials(s[j]) {
             i += 2;
@@ -409,167 +451,255 @@ pub fn quoted_end(s: &[u8], at: usize) -> Quote
         }
     }
     if s[i] == b'"' {
-        Quote::End(i + 1)
+        (i + 1) as u64
     } else {
-        Quote::Wrong
+        table::REFUSED
     }
+}
+
+// quoted = DQUOTE *QUOTED-CHAR DQUOTE, where the opening quote was seen
+pub fn quoted_from(s: &[u8], c: u64, t: &mut [u32], at: usize) -> u64
+    requires { ⌜ Stands 0 (now s) c ⌝ }
+    requires { ⌜ c < first-failure ⌝ }
+    requires { ⌜ Placed c at ⌝ }
+    requires { ⌜ Opened (now s) at ⌝ }
+    ensures { λ q. ⌜ Reads 0 quoted s c q t ⌝ }
+{
+    let e = quoted_end(&*s, at);
+    if table::FAILED <= e {
+        return e;
+    }
+    let next = e as usize;
+    table::leaf(
+        t,
+        c,
+        grammar::KIND_BYTES,
+        (at + 1) as u32,
+        (next - 1) as u32,
+        next,
+    )
 }
 
 // quoted = DQUOTE *QUOTED-CHAR DQUOTE
-pub fn quoted(s: &[u8], at: usize, t: &mut [u32]) -> Step
-    requires { ⌜ Room (now s) at ⌝ }
-    ensures { λ r. ⌜ Does 0 quoted (now (s .entry)) at r (now (t .entry)) (now (t .exit)) ⌝ }
+pub fn quoted(s: &[u8], c: u64, t: &mut [u32]) -> u64
+    requires { ⌜ Stands 0 (now s) c ⌝ }
+    ensures { λ q. ⌜ Reads 0 quoted s c q t ⌝ }
 {
-    if s.len() <= at {
-        return Step::More(0);
+    if table::FAILED <= c {
+        return c;
     }
-    if s[at] != b'"' {
-        return Step::Refused;
+    let i = table::place(c);
+    if s.len() <= i {
+        return table::FAILED;
     }
-    let start = at + 1;
-    let q = quoted_end(s, start);
-    match q {
-        Quote::End(next) => bytes_node(t, start, next - 1, next),
-        Quote::Short => Step::More(0),
-        Quote::Wrong => Step::Refused,
+    if s[i] != b'"' {
+        return table::REFUSED;
     }
+    quoted_from(&*s, c, t, i)
 }
 
-// The line end of a literal's header.
-fn line_end(s: &[u8], at: usize, count: usize) -> Header
+// CRLF, behind a literal's count: where the content begins, and the count.
+fn line_end(s: &[u8], at: usize, count: u32) -> u64
     requires { ⌜ Room (now s) at ⌝ }
-    requires { ⌜ count ≤ 4294967295 ⌝ }
-    ensures { λ r. ⌜ Headers 3 count (now (s .entry)) at r ⌝ }
+    ensures { λ h. ⌜ Headers 3 count (now (s .entry)) at h ⌝ }
 {
     if s.len() <= at {
-        return Header::Short;
+        return table::FAILED;
     }
     if s[at] != b'\r' {
-        return Header::Wrong;
+        return table::REFUSED;
     }
     let lf = at + 1;
     if s.len() <= lf {
-        return Header::Short;
+        return table::FAILED;
     }
     if s[lf] != b'\n' {
-        return Header::Wrong;
+        return table::REFUSED;
     }
-    Header::Content {
-        start: lf + 1,
-        count,
-    }
+    table::found(lf + 1, count as u64)
 }
 
 // "{" number "}" CRLF
-pub fn literal_header(s: &[u8], at: usize) -> Header
+pub fn literal_header(s: &[u8], at: usize) -> u64
     requires { ⌜ Room (now s) at ⌝ }
-    ensures { λ r. ⌜ Headers 0 0 (now (s .entry)) at r ⌝ }
+    ensures { λ h. ⌜ Headers 0 0 (now (s .entry)) at h ⌝ }
 {
     if s.len() <= at {
-        return Header::Short;
+        return table::FAILED;
     }
     if s[at] != b'{' {
-        return Header::Wrong;
+        return table::REFUSED;
     }
-    let d = digits(s, at + 1, 4294967295);
-    match d {
-        Numeral::Value { next, value } => {
-            if s[next] != b'}' {
-                return Header::Wrong;
-            }
-            line_end(s, next + 1, value as usize)
-        }
-        Numeral::Short => Header::Short,
-        Numeral::Wrong => Header::Wrong,
+    let d = digits_32(&*s, at + 1);
+    if table::FAILED <= d {
+        return d;
     }
+    let next = table::found_next(d);
+    if s[next] != b'}' {
+        return table::REFUSED;
+    }
+    line_end(&*s, next + 1, table::found_value(d))
 }
 
 // literal = "{" number "}" CRLF *CHAR8 ; Number represents the number of CHAR8s
-pub fn literal(s: &[u8], at: usize, t: &mut [u32]) -> Step
-    requires { ⌜ Room (now s) at ⌝ }
-    ensures { λ r. ⌜ Does 0 literal (now (s .entry)) at r (now (t .entry)) (now (t .exit)) ⌝ }
+pub fn literal(s: &[u8], c: u64, t: &mut [u32]) -> u64
+    requires { ⌜ Stands 0 (now s) c ⌝ }
+    ensures { λ q. ⌜ Reads 0 literal s c q t ⌝ }
 {
-    let h = literal_header(s, at);
-    match h {
-        Header::Content { start, count } => {
-            let end = start + count;
-            if end <= s.len() {
-                return bytes_node(t, start, end, end);
-            }
-            Step::More(end - s.len())
-        }
-        Header::Short => Step::More(0),
-        Header::Wrong => Step::Refused,
+    if table::FAILED <= c {
+        return c;
     }
+    let h = literal_header(&*s, table::place(c));
+    if table::FAILED <= h {
+        return h;
+    }
+    let start = table::found_next(h);
+    let end = start + (table::found_value(h) as usize);
+    if s.len() < end {
+        return table::more(end - s.len());
+    }
+    table::leaf(t, c, grammar::KIND_BYTES, start as u32, end as u32, end)
 }
 
-// string = quoted / literal
-pub fn string(s: &[u8], at: usize, t: &mut [u32]) -> Step
-    requires { ⌜ Room (now s) at ⌝ }
-    ensures { λ r. ⌜ Does 0 string (now (s .entry)) at r (now (t .entry)) (now (t .exit)) ⌝ }
+// string = quoted / literal, by the first byte
+pub fn string(s: &[u8], c: u64, t: &mut [u32]) -> u64
+    requires { ⌜ Stands 0 (now s) c ⌝ }
+    ensures { λ q. ⌜ Reads 0 string s c q t ⌝ }
 {
-    let r = quoted(s, at, t);
-    let Step::Refused = r else {
+    if table::FAILED <= c {
+        return c;
+    }
+    let i = table::place(c);
+    if s.len() <= i {
+        return table::FAILED;
+    }
+    if s[i] == b'"' {
+        return quoted_from(&*s, c, t, i);
+    }
+    literal(&*s, c, t)
+}
+
+// SP string
+pub fn sp_string(s: &[u8], c: u64, t: &mut [u32]) -> u64
+    requires { ⌜ Stands 0 (now s) c ⌝ }
+    ensures { λ q. ⌜ Reads 0 (sp ⋯ string) s c q t ⌝ }
+{
+    let r = char(&*s, c, b' ');
+    if table::FAILED <= r {
         return r;
-    };
-    literal(s, at, t)
+    }
+    string(&*s, r, t)
 }
 
 // ----- astring -----
 
 // 1*ASTRING-CHAR
-fn astring_chars(s: &[u8], at: usize, t: &mut [u32]) -> Step
-    requires { ⌜ Room (now s) at ⌝ }
-    ensures { λ r. ⌜ Does 0 (does (node kind-bytes) (leaf (take-while1 astring-chars))) (now (s .entry)) at r (now (t .entry)) (now (t .exit)) ⌝ }
+fn astring_chars(s: &[u8], c: u64, t: &mut [u32]) -> u64
+    requires { ⌜ Stands 0 (now s) c ⌝ }
+    ensures { λ q. ⌜ Reads 0 (does (node kind-bytes) (leaf (take-while1 astring-chars))) s c q t ⌝ }
 {
-    let run = astring_end(s, at);
-    let r = run1(run, at);
-    table::finish(t, grammar::KIND_BYTES, at, r)
+    if table::FAILED <= c {
+        return c;
+    }
+    let i = table::place(c);
+    let e = astring_end(&*s, i);
+    if table::FAILED <= e {
+        return e;
+    }
+    let next = e as usize;
+    if next == i {
+        return table::REFUSED;
+    }
+    table::leaf(t, c, grammar::KIND_BYTES, i as u32, next as u32, next)
 }
 
 // astring = 1*ASTRING-CHAR / string
-pub fn astring(s: &[u8], at: usize, t: &mut [u32]) -> Step
-    requires { ⌜ Room (now s) at ⌝ }
-    ensures { λ r. ⌜ Does 0 astring (now (s .entry)) at r (now (t .entry)) (now (t .exit)) ⌝ }
+pub fn astring(s: &[u8], c: u64, t: &mut [u32]) -> u64
+    requires { ⌜ Stands 0 (now s) c ⌝ }
+    ensures { λ q. ⌜ Reads 0 astring s c q t ⌝ }
 {
-    let r = astring_chars(s, at, t);
-    let Step::Refused = r else {
+    let r = astring_chars(&*s, c, t);
+    if r != table::REFUSED {
         return r;
-    };
-    string(s, at, t)
+    }
+    string(&*s, c, t)
+}
+
+// SP astring
+pub fn sp_astring(s: &[u8], c: u64, t: &mut [u32]) -> u64
+    requires { ⌜ Stands 0 (now s) c ⌝ }
+    ensures { λ q. ⌜ Reads 0 (sp ⋯ astring) s c q t ⌝ }
+{
+    let r = char(&*s, c, b' ');
+    if table::FAILED <= r {
+        return r;
+    }
+    astring(&*s, r, t)
 }
 
 // ----- nstring -----
 
 // nil = "NIL"
-pub fn nil(s: &[u8], at: usize, t: &mut [u32]) -> Step
-    requires { ⌜ Room (now s) at ⌝ }
-    ensures { λ r. ⌜ Does 0 nil (now (s .entry)) at r (now (t .entry)) (now (t .exit)) ⌝ }
+pub fn nil(s: &[u8], c: u64, t: &mut [u32]) -> u64
+    requires { ⌜ Stands 0 (now s) c ⌝ }
+    ensures { λ q. ⌜ Reads 0 nil s c q t ⌝ }
 {
-    let r = tag_no_case(s, at, b"NIL");
-    table::finish(t, grammar::KIND_NIL, at, r)
+    if table::FAILED <= c {
+        return c;
+    }
+    let q = tag_no_case(&*s, table::start(c), b"NIL");
+    table::finish(t, grammar::KIND_NIL, c, q)
 }
 
-// nstring = string / nil
-pub fn nstring(s: &[u8], at: usize, t: &mut [u32]) -> Step
-    requires { ⌜ Room (now s) at ⌝ }
-    ensures { λ r. ⌜ Does 0 nstring (now (s .entry)) at r (now (t .entry)) (now (t .exit)) ⌝ }
+// nstring = string / nil, by the first byte
+pub fn nstring(s: &[u8], c: u64, t: &mut [u32]) -> u64
+    requires { ⌜ Stands 0 (now s) c ⌝ }
+    ensures { λ q. ⌜ Reads 0 nstring s c q t ⌝ }
 {
-    let r = nil(s, at, t);
-    let Step::Refused = r else {
+    if table::FAILED <= c {
+        return c;
+    }
+    let i = table::place(c);
+    if s.len() <= i {
+        return table::FAILED;
+    }
+    let b = s[i];
+    if b == b'"' {
+        return quoted_from(&*s, c, t, i);
+    }
+    if b == b'{' {
+        return literal(&*s, c, t);
+    }
+    nil(&*s, c, t)
+}
+
+// SP nstring
+pub fn sp_nstring(s: &[u8], c: u64, t: &mut [u32]) -> u64
+    requires { ⌜ Stands 0 (now s) c ⌝ }
+    ensures { λ q. ⌜ Reads 0 (sp ⋯ nstring) s c q t ⌝ }
+{
+    let r = char(&*s, c, b' ');
+    if table::FAILED <= r {
         return r;
-    };
-    string(s, at, t)
+    }
+    nstring(&*s, r, t)
 }
 
 // ----- text -----
 
 // text = *TEXT-CHAR
-pub fn text(s: &[u8], at: usize, t: &mut [u32]) -> Step
-    requires { ⌜ Room (now s) at ⌝ }
-    ensures { λ r. ⌜ Does 0 text (now (s .entry)) at r (now (t .entry)) (now (t .exit)) ⌝ }
+pub fn text(s: &[u8], c: u64, t: &mut [u32]) -> u64
+    requires { ⌜ Stands 1 (now s) c ⌝ }
+    ensures { λ q. ⌜ Reads 0 text s c q t ⌝ }
 {
-    let run = text_end(s, at);
-    let r = run0(run);
-    table::finish(t, grammar::KIND_BYTES, at, r)
+    if table::FAILED <= c {
+        return c;
+    }
+    let i = table::place(c);
+    let e = text_end(&*s, i);
+    if table::FAILED <= e {
+        return e;
+    }
+    let next = e as usize;
+    table::leaf(t, c, grammar::KIND_BYTES, i as u32, next as u32, next)
 }

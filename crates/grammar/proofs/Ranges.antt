@@ -6,7 +6,7 @@ use mathlib.Core.Bool.{Bool, true, false, not, _&&_, _||_}
 use mathlib.Core.List.{List, [], _∷_, _++_, append-assoc, append-nil}
 use native.Mathlib.Omega.{arith}
 use lib.ListN.{length, drop, getD, List·getD-append}
-use lib.Dec.{T, leb, eqb, leb→le, eqb→eq}
+use lib.Dec.{T, leb, eqb, T-not}
 use Rattle.grammar.specs.Forest.{Forest, none, tree, node-of, size, words, beside}
 use Rattle.grammar.specs.Out.{Out, took, more, refused, deep, branch}
 use Rattle.grammar.specs.Scan.{Leaf, tag, tag-no-case, digits, quotes, take-while1, take-while, leaf-move, first-state}
@@ -107,21 +107,17 @@ pub record Lies (g : G) (s : List ℕ) (at e : ℕ) (f : Forest) : Type 0 where
   pub forward : at ≤ e
   pub nodes : In e f
 
--- a mark with a range has the range 0 to 0
+-- a mark is of no kind that holds a range
 abbrev marks : Test
 marks = record {
   of-leaf = λ l. true;
-  of-mark = λ kind a. not (ranged kind) || eqb a 0;
+  of-mark = λ kind a. not (ranged kind);
   of-star = λ g. true;
   of-does = λ a g. true;
 }
 
-mark-in : (kind a e : ℕ) → T (not (ranged kind) || eqb a 0) → In e (node-of kind a 0)
-mark-in kind a e t = (of (ranged kind) t, tt, tt)
-  where
-    of : (b : Bool) → T (not b || eqb a 0) → T b → (a ≤ 0) × (0 ≤ e)
-    of true u v = let z = eqb→eq a 0 u in (omega arith, omega arith)
-    of false u v = absurd v
+mark-in : (kind a e : ℕ) → T (not (ranged kind)) → In e (node-of kind a 0)
+mark-in kind a e t = ((λ u. absurd (T-not (ranged kind) t u)), tt, tt)
 
 act-in : (a : Act) (at e : ℕ) (f : Forest) → at ≤ e → In e f → In e (act a at e f)
 unfolding act

@@ -1,168 +1,193 @@
--- One number or two: from what was scanned to what the definition finds, and to the node that a set makes of it.
+-- A member of a set: one number, or two with a colon between them.
 use Prim.Native.Char.{code}
-use Prim.Native.Nat.{ℕ, _+_, _*_, _/_, _%_, _≤_, _<_}
-use mathlib.Core.Path.{_≡_, refl, sym, ap, subst, _∙_}
-use mathlib.Core.Bool.{Bool, true, false}
-use mathlib.Core.List.{List, [], _∷_}
+use Prim.Native.Nat.{ℕ, _+_, _/_, _%_, _≤_, _<_}
+use mathlib.Core.Path.{_≡_, refl, sym, subst, _∙_}
+use mathlib.Core.Logic.{⊎-elim}
+use mathlib.Core.List.{List}
 use native.Mathlib.Omega.{arith}
-use lib.ListN.{length, drop, getD}
-use lib.Dec.{leb}
-use borrow.Author.Tests.{leb-true}
+use native.Mathlib.Numerals.{add-one}
+use lib.ListN.{length, getD}
+use borrow.Author.Tests.{ne-eqb}
 use Rattle.grammar.specs.Kinds.{kind-number, kind-range}
-use Rattle.grammar.specs.Forest.{Forest, none, tree, node-of, size, beside}
-use Rattle.grammar.specs.Out.{Out, took, more, refused, deep, branch, followed-by, orElse, with-before}
-use Rattle.grammar.specs.Scan.{Scanned, ended, short, failed, scan, digits, digits-move, leaf-move, first-state, leaf-fits, leaf-nodes, leaf-found, leaf-at, two-32, largest-32, tag}
-use Rattle.grammar.specs.Grammar.{G, leaf, seq, alt, does, range, Act, act, run}
-use Rattle.grammar.specs.Notation.{_⋯_, _or_, exact}
-use Rattle.grammar.specs.Core.{number, number-pair, sequence-member}
-use Rattle.table.specs.declared.Step.{Step}
-use Rattle.table.specs.declared.Step.the-variants.{Took, More, Refused}
-use Rattle.table.specs.Table.{as-step, lay, over}
-use Rattle.table.specs.Fill.{find, fill-with, act-table}
-use Rattle.table.specs.Promise.{Does, Skims}
-use Rattle.table.proofs.Answers.{found, refusal}
-use Rattle.core.specs.Scanned.{as-digits, valued-digits, EndsAt, Counts}
-use Rattle.core.specs.declared.Numeral.{Numeral}
-use Rattle.core.specs.declared.Numeral.the-variants as numeral
-use Rattle.core.specs.declared.Value.the-variants.{Fits, Large}
-use Rattle.core.proofs.Leaves.{byte-short, byte-taken, byte-refused}
-use Rattle.lists.specs.Numbered.{numbers-out, Numbered, Second}
-use Rattle.lists.specs.declared.Member.{Member}
-use Rattle.lists.specs.declared.Member.the-variants as member
+use Rattle.grammar.specs.Text.{ascii}
+use Rattle.grammar.specs.Forest.{Forest, none, tree, node-of, beside}
+use Rattle.grammar.specs.Out.{Out, took, more, refused, followed-by}
+use Rattle.grammar.specs.Scan.{tag, digits, leaf-at, leaf-move, first-state, leaf-fits, leaf-nodes, two-32, largest-32}
+use Rattle.grammar.specs.Grammar.{G, Act, alt, does, range, act, run}
+use Rattle.grammar.specs.Notation.{exact}
+use Rattle.grammar.specs.Core.{number, number-pair}
+use Rattle.grammar.specs.Reading.{length-limit}
+use Rattle.grammar.proofs.Scans.{scan-step}
+use Rattle.table.specs.Cursor.{find, first-failure, refusal}
+use Rattle.table.specs.Table.{lay}
+use Rattle.table.specs.Fill.{fill-with, act-table}
+use Rattle.table.specs.Promise.{Stands, Room, Placed, Goes, Leafed}
+use Rattle.table.proofs.Going.{Still, Lays, short-of, refuses, leaves}
+use Rattle.table.proofs.Bounds.{room}
+use Rattle.table.proofs.Opens.{opens, ruled-out}
+use Rattle.table.proofs.Search.{reads}
+use Rattle.core.specs.Scanned.{Counts}
+use Rattle.core.proofs.Numbers.{number-took, number-past, number-fails}
+use Rattle.core.proofs.Headers.{count-ends}
 
--- a number -----------------------------------------------------------------------------------------------------------------------
+abbrev pub numeral : List ℕ → ℕ → Out
+numeral s at = leaf-at (digits largest-32) s at
 
-abbrev digits-out : Numeral → Out
-digits-out (numeral.Value next value) = took next (node-of kind-number (value % two-32) (value / two-32))
-digits-out numeral.Short = more 0
-digits-out numeral.Wrong = refused
+abbrev pub a-number : ℕ → Forest
+a-number v = node-of kind-number v 0
 
-digits-found : (largest at : ℕ) (x : Scanned) → leaf-found (digits largest) at x ≡ digits-out (as-digits largest x)
-unfolding leaf-fits leaf-nodes
-digits-found largest at (ended e v) = go (leb v largest)
-  where
-    go : (b : Bool)
-        → branch b (λ u. took e (node-of kind-number (v % two-32) (v / two-32))) (λ u. refused) ≡ digits-out (valued-digits e (branch b (λ u. Fits v) (λ u. Large)))
-    go true = refl
-    go false = refl
-digits-found largest at short = refl
-digits-found largest at failed = refl
+abbrev pub two-numbers : ℕ → ℕ → Forest
+two-numbers v w = tree kind-number v 0 none (a-number w)
 
-number-found : {s : List ℕ} {at : ℕ} {d : Numeral} → Counts largest-32 s at d → find 0 number s at ≡ digits-out d
-unfolding run number leaf-at leaf-move first-state
-number-found {s} {at} c = digits-found largest-32 at (scan digits-move 0 0 (drop at s) at) ∙ ap digits-out (sym (c .is))
+-- as the definition finds them ---------------------------------------------------------------------------------------------------
 
--- it fits 32 bits
-pub counted-fits : {largest : ℕ} {s : List ℕ} {at : ℕ} {d : Numeral} {e v : ℕ} → Counts largest s at d → d ≡ numeral.Value e v → v ≤ largest
-counted-fits {largest} {s} {at} {d} {e} {v} c p = go (scan digits-move 0 0 (drop at s) at) (sym p ∙ c .is)
-  where
-    value : (b : Bool) (e′ v′ : ℕ) → leb v′ largest ≡ b → numeral.Value e v ≡ valued-digits e′ (branch b (λ u. Fits v′) (λ u. Large)) → v ≤ largest
-    value true e′ v′ l q = let m = leb-true v′ largest l in let z : v ≡ v′ = cc in omega arith
-    value false e′ v′ l q = let z : _≡_ {A = ℕ} 0 1 = cc in absurd (omega arith)
+module _ (s : List ℕ) (at : ℕ) where
+  colon-found : at < length s → getD s at 0 ≡ code ":" → find 0 (exact ":") s at ≡ took (at + 1) none
+  unfolding run leaf-at leaf-move first-state leaf-fits leaf-nodes
+  colon-found l p = rw (scan-step (leaf-move (tag (ascii ":"))) s 0 0 at l, p, add-one)
 
-    go : (x : Scanned) → numeral.Value e v ≡ as-digits largest x → v ≤ largest
-    go (ended e′ v′) q = value (leb v′ largest) e′ v′ refl q
-    go short q = let z : _≡_ {A = ℕ} 0 1 = cc in absurd (omega arith)
-    go failed q = let z : _≡_ {A = ℕ} 0 1 = cc in absurd (omega arith)
+  colon-none : at < length s → (getD s at 0 ≡ code ":" → ⊥) → find 0 (exact ":") s at ≡ refused
+  unfolding opens
+  colon-none l n = ruled-out {d = 0} (exact ":") {s = s} {at = at} l (rw (ne-eqb (getD s at 0) (code ":") n)) .read
 
-pub counted-inside : {largest : ℕ} {s : List ℕ} {at : ℕ} {d : Numeral} {e v : ℕ} → Counts largest s at d → d ≡ numeral.Value e v → e < length s
-counted-inside {s = s} c p = subst (EndsAt s) p (c .inside)
+  pair-more : numeral s at ≡ more 0 → find 0 (alt number-pair number) s at ≡ more 0
+  unfolding run number number-pair
+  pair-more p = rw p
 
--- a number of 32 bits: the high word is 0
-value-found : {s : List ℕ} {at e v : ℕ} {d : Numeral} → Counts largest-32 s at d → d ≡ numeral.Value e v → find 0 number s at ≡ took e (node-of kind-number v 0)
-value-found {e = e} {v = v} c p =
-    let l = counted-fits c p in
-    let low : v % two-32 ≡ v = omega arith in
-    let high : v / two-32 ≡ 0 = omega arith in
-    number-found c ∙ ap digits-out p ∙ rw (low, high)
+  pair-refused : numeral s at ≡ refused → find 0 (alt number-pair number) s at ≡ refused
+  unfolding run number number-pair
+  pair-refused p = rw p
 
--- the colon and the second number ---------------------------------------------------------------------------------------------------
+  module _ {e v : ℕ} (p : numeral s at ≡ took e (a-number v)) where
+    pair-one : find 0 (exact ":") s e ≡ refused → find 0 (alt number-pair number) s at ≡ took e (a-number v)
+    unfolding run number number-pair
+    pair-one q = rw (p, q)
 
--- a byte's reading, as the definition finds it
-byte-found : {b : ℕ} {s : List ℕ} {at e : ℕ} → Skims (leaf (tag (b ∷ []))) s at (Took e 0) → find 0 (leaf (tag (b ∷ []))) s at ≡ took e none
-unfolding size
-byte-found {b} {s} {at} {e} did = let f = found (find 0 (leaf (tag (b ∷ []))) s at) e 0 (did .read) in f .is ∙ ap (took e) (empty (f .forest) (sym (f .sized)))
-  where
-    empty : (f : Forest) → size f ≡ 0 → f ≡ none
-    empty none p = refl
-    empty (tree k a b f g) p = absurd (omega arith)
+    module _ (q : find 0 (exact ":") s e ≡ took (e + 1) none) where
+      pair-two : {e′ w : ℕ} → numeral s (e + 1) ≡ took e′ (a-number w) → find 0 (alt number-pair number) s at ≡ took e′ (two-numbers v w)
+      unfolding run number number-pair beside
+      pair-two r = rw (p, q, r)
 
-byte-more : {b : ℕ} {s : List ℕ} {at : ℕ} → Skims (leaf (tag (b ∷ []))) s at (More 0) → find 0 (leaf (tag (b ∷ []))) s at ≡ more 0
-byte-more {b} {s} {at} did = go (find 0 (leaf (tag (b ∷ []))) s at) (did .read)
-  where
-    go : (o : Out) → More 0 ≡ as-step o → o ≡ more 0
-    go (took e f) p = cc
-    go (more w) p = cc
-    go refused p = cc
-    go deep p = cc
+      pair-short : numeral s (e + 1) ≡ more 0 → find 0 (alt number-pair number) s at ≡ more 0
+      unfolding run number number-pair
+      pair-short r = rw (p, q, r)
 
-byte-no : {b : ℕ} {s : List ℕ} {at : ℕ} → Skims (leaf (tag (b ∷ []))) s at Refused → find 0 (leaf (tag (b ∷ []))) s at ≡ refused
-byte-no {b} {s} {at} did = refusal (find 0 (leaf (tag (b ∷ []))) s at) (did .read)
+      pair-alone : numeral s (e + 1) ≡ refused → find 0 (alt number-pair number) s at ≡ took e (a-number v)
+      unfolding run number number-pair
+      pair-alone r = rw (p, q, r)
 
-module _ {s : List ℕ} {at first : ℕ} where
-  pub second-cut : at ≤ length s → length s ≤ at → Second s at first member.Short
-  second-cut i l = record { found = rw (byte-more (byte-short {b = code ":"} i l)) }
+-- what becomes of them -----------------------------------------------------------------------------------------------------------
 
-  pub second-none : at < length s → (getD s at 0 ≡ code ":" → ⊥) → Second s at first (member.One at first)
-  second-none l n = record { found = rw (byte-no (byte-refused {b = code ":"} l n)) }
+-- an act that makes one node, put once, of what was read without the table
+pub record Flat (a : Act) : Type 0 where
+  pub lays : (at : ℕ) (o : Out) (below : List ℕ → List ℕ) (t : List ℕ) → act-table a at o below t ≡ lay (followed-by o (λ end f. took end (act a at end f))) t
 
-  module _ (l : at < length s) (colon : getD s at 0 ≡ code ":") {d : Numeral} (counts : Counts largest-32 s (at + 1) d) where
-    pub second-two : {e v : ℕ} → d ≡ numeral.Value e v → Second s at first (member.Two e first v)
-    unfolding beside
-    second-two p = record { found = rw (byte-found (byte-taken {b = code ":"} l colon), value-found counts p) }
+-- of one number, and of two
+pub record One (a : Act) (v kind x y : ℕ) : Type 0 where
+  pub makes : (at end : ℕ) → act a at end (a-number v) ≡ node-of kind x y
 
-    pub second-short : d ≡ numeral.Short → Second s at first member.Short
-    second-short p = record { found = rw (byte-found (byte-taken {b = code ":"} l colon), number-found counts, p) }
+pub record Two (a : Act) (v w kind x y : ℕ) : Type 0 where
+  pub makes : (at end : ℕ) → act a at end (two-numbers v w) ≡ node-of kind x y
 
-    pub second-wrong : d ≡ numeral.Wrong → Second s at first (member.One at first)
-    second-wrong p = record { found = rw (byte-found (byte-taken {b = code ":"} l colon), number-found counts, p) }
+abbrev pub member : Act → G
+member a = does a (alt number-pair number)
 
--- the whole -------------------------------------------------------------------------------------------------------------------------
+module _ {a : Act} (flat : Flat a) {s : List ℕ} {at : ℕ} where
+  member-more : find 0 (alt number-pair number) s at ≡ more 0 → Still 0 (member a) s at (more 0)
+  unfolding run fill-with
+  member-more p = record { read = rw p; wrote = λ t. flat .lays at _ _ t ∙ rw p }
 
-module _ {s : List ℕ} {at : ℕ} {d : Numeral} (counts : Counts largest-32 s at d) where
-  pub numbered-short : d ≡ numeral.Short → Numbered s at member.Short
-  unfolding run number-pair
-  numbered-short p = record { found = rw (number-found counts, p) }
+  member-refused : find 0 (alt number-pair number) s at ≡ refused → Still 0 (member a) s at refused
+  unfolding run fill-with
+  member-refused p = record { read = rw p; wrote = λ t. flat .lays at _ _ t ∙ rw p }
 
-  pub numbered-wrong : d ≡ numeral.Wrong → Numbered s at member.Wrong
-  unfolding run number-pair
-  numbered-wrong p = record { found = rw (number-found counts, p) }
+  member-lays : {e kind x y : ℕ} {f : Forest} → find 0 (alt number-pair number) s at ≡ took e f → act a at e f ≡ node-of kind x y
+      → Lays 0 (member a) s at e kind x y
+  unfolding run fill-with
+  member-lays p m = record { read = rw (p, m); wrote = λ t. flat .lays at _ _ t ∙ rw (p, m) }
 
-  pub numbered-on : {e v : ℕ} {r : Member} → d ≡ numeral.Value e v → Second s e v r → Numbered s at r
-  unfolding run number-pair
-  numbered-on {e} {v} p w = record { found = rw (value-found counts p) (w .found) }
+-- so of their readers ------------------------------------------------------------------------------------------------------------
 
--- a member of a sequence set --------------------------------------------------------------------------------------------------------
+-- a number's end lies within the limit, and a byte stands there
+module _ {s : List ℕ} {c at d next : ℕ} (stands : Stands 0 s c) (did : Counts s at d) (l : d < first-failure) (p : next ≡ d / two-32) where
+  pub number-few : next ≤ length-limit
+  number-few = let k = count-ends did l p in let small = stands .small in omega arith
 
--- what is found of a member, once its numbers are known
-abbrev member-out : Act → ℕ → Member → Out
-member-out a at r = followed-by (numbers-out r) (λ end f. took end (act a at end f))
+  pub second-room : Room s (next + 1)
+  second-room = record { inside = let k = count-ends did l p in omega arith; small = stands .small }
 
-pub member-is : {a : Act} {s : List ℕ} {at : ℕ} {n : Member} {r : Step} {t t′ : List ℕ} → Numbered s at n
-    → ((o : Out) (below : List ℕ → List ℕ) → act-table a at o below t ≡ lay (followed-by o (λ end f. took end (act a at end f))) t)
-    → r ≡ as-step (member-out a at n) → t′ ≡ lay (member-out a at n) t → Does 0 (does a (number-pair or number)) s at r t t′
-unfolding run fill-with
-member-is {a} {s} {at} {n} {t = t} w lays p q = record {
-  read = p ∙ ap (λ o. as-step (followed-by o (λ end f. took end (act a at end f)))) (sym (w .found));
-  wrote = q ∙ ap (λ o. lay (followed-by o (λ end f. took end (act a at end f))) t) (sym (w .found)) ∙ sym (lays (find 0 (number-pair or number) s at) _);
-}
+module _ {a : Act} (flat : Flat a) {s : List ℕ} {c at : ℕ} (going : c < first-failure) (stands : Stands 0 s c) (placed : Placed c at)
+    {d : ℕ} (did : Counts s at d) where
+  -- no number
+  pub member-stops : {t : List ℕ} → first-failure ≤ d → Goes 0 (member a) s c d t t
+  member-stops {t} l =
+      ⊎-elim
+      (λ w. subst (λ (q : ℕ). Goes 0 (member a) s c q t t) (sym (w .0)) (short-of going stands placed (member-more flat (pair-more s at (w .1)))))
+      (λ w. subst (λ (q : ℕ). Goes 0 (member a) s c q t t) (sym (w .0)) (refuses going stands placed (member-refused flat (pair-refused s at (w .1)))))
+      (number-fails (room going stands placed) did l)
 
-range-is : {s : List ℕ} {at : ℕ} {n : Member} {r : Step} {t t′ : List ℕ} → Numbered s at n
-    → r ≡ as-step (member-out range at n) → t′ ≡ lay (member-out range at n) t → Does 0 sequence-member s at r t t′
-unfolding act-table sequence-member
-range-is w p q = member-is w (λ o below. refl) p q
+  module _ {next v : ℕ} (l : d < first-failure) (p : next ≡ d / two-32) (w : v ≡ d % two-32) where
+    first-found : numeral s at ≡ took next (a-number v)
+    first-found = number-took (room going stands placed) did l ∙ cc
 
-module _ {s : List ℕ} {at : ℕ} {n : Member} (w : Numbered s at n) where
-  pub range-one : {e a : ℕ} {t t′ : List ℕ} → n ≡ member.One e a → t′ ≡ over kind-range a a 1 t → Does 0 sequence-member s at (Took e 1) t t′
-  unfolding act size
-  range-one p q = range-is w (rw p) (rw p q)
+    one-done : {kind x y q : ℕ} {t t′ : List ℕ} → find 0 (alt number-pair number) s at ≡ took next (a-number v) → One a v kind x y
+        → Leafed kind x y next c q t t′ → Goes 0 (member a) s c q t t′
+    one-done r m z =
+        let k = number-past (room going stands placed) did l in
+        leaves going stands placed (member-lays flat r (m .makes at next)) (let low = k .low in omega arith) (let high = k .high in omega arith) z
 
-  pub range-two : {e a b : ℕ} {t t′ : List ℕ} → n ≡ member.Two e a b → t′ ≡ over kind-range a b 1 t → Does 0 sequence-member s at (Took e 1) t t′
-  unfolding act size
-  range-two p q = range-is w (rw p) (rw p q)
+    -- one number
+    pub member-one : {kind x y q : ℕ} {t t′ : List ℕ} → (getD s next 0 ≡ code ":" → ⊥) → One a v kind x y
+        → Leafed kind x y next c q t t′ → Goes 0 (member a) s c q t t′
+    member-one n m z = one-done (pair-one s at first-found (colon-none s next (count-ends did l p) n)) m z
 
-  pub range-short : {t : List ℕ} → n ≡ member.Short → Does 0 sequence-member s at (More 0) t t
-  range-short p = range-is w (rw p) (rw p)
+    module _ (colon : getD s next 0 ≡ code ":") {e : ℕ} (did′ : Counts s (next + 1) e) where
+      colon-here : find 0 (exact ":") s next ≡ took (next + 1) none
+      colon-here = colon-found s next (count-ends did l p) colon
 
-  pub range-wrong : {t : List ℕ} → n ≡ member.Wrong → Does 0 sequence-member s at Refused t t
-  range-wrong p = range-is w (rw p) (rw p)
+      -- the second is none: the first stands alone, before the colon
+      pub member-alone : {kind x y q : ℕ} {t t′ : List ℕ} → e ≡ refusal → One a v kind x y
+          → Leafed kind x y next c q t t′ → Goes 0 (member a) s c q t t′
+      member-alone r m z =
+          one-done
+          (⊎-elim (λ u. absurd (omega (arith, u .0))) (λ u. pair-alone s at first-found colon-here (u .1))
+          (number-fails (second-room stands did l p) did′ (omega arith)))
+          m z
+
+      -- or it is unfinished
+      pub member-short : {t : List ℕ} → (e ≡ refusal → ⊥) → first-failure ≤ e → Goes 0 (member a) s c e t t
+      member-short {t} n h =
+          ⊎-elim
+          (λ u. subst (λ (q : ℕ). Goes 0 (member a) s c q t t) (sym (u .0))
+          (short-of going stands placed (member-more flat (pair-short s at first-found colon-here (u .1)))))
+          (λ u. absurd (n (u .0)))
+          (number-fails (second-room stands did l p) did′ h)
+
+      -- two numbers
+      pub member-two : {end v′ kind x y q : ℕ} {t t′ : List ℕ} → e < first-failure → end ≡ e / two-32 → v′ ≡ e % two-32 → Two a v v′ kind x y
+          → Leafed kind x y end c q t t′ → Goes 0 (member a) s c q t t′
+      member-two {end} {v′} h p′ w′ m z =
+          let k = number-past (room going stands placed) did l in
+          let k′ = number-past (second-room stands did l p) did′ h in
+          let second : numeral s (next + 1) ≡ took end (a-number v′) = number-took (second-room stands did l p) did′ h ∙ cc in
+          leaves going stands placed (member-lays flat (pair-two s at first-found colon-here second) (m .makes at end))
+          (let low = k .low in let low′ = k′ .low in omega arith) (let high′ = k′ .high in omega arith) z
+
+-- a sequence set's: as written ---------------------------------------------------------------------------------------------------
+
+pub range-flat : Flat range
+unfolding act-table
+range-flat = record { lays = λ at o below t. refl }
+
+pub range-one : {v : ℕ} → One range v kind-range v v
+unfolding act
+range-one = record { makes = λ at end. refl }
+
+pub range-two : {v w : ℕ} → Two range v w kind-range v w
+unfolding act
+range-two = record { makes = λ at end. refl }
+
+-- what `search` is to know of any member, and of one of a sequence set
+pub ruleset numbers = (count-ends, number-few, second-room, member-stops, member-one, member-alone, member-short, member-two, reads)
+
+pub ruleset ranges = (range-flat, range-one, range-two, numbers)

@@ -1,3 +1,5 @@
+pub mod Arms
+pub mod Copies
 pub mod Demands
 pub mod Passes
 pub mod Words

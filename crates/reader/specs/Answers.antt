@@ -3,6 +3,7 @@ use Prim.Native.Nat.{ℕ}
 use mathlib.Core.Path.{_≡_}
 use mathlib.Core.List.{List}
 use Rattle.grammar.specs.Reading.{Result, no-reading, result}
+use Rattle.table.specs.Cursor.{Step, Took, More, Refused, Deep}
 use Rattle.reader.specs.declared.Answer.{Answer}
 use Rattle.reader.specs.declared.Answer.the-variants.{Accepted, Unfinished, NotTheGrammar, TooDeep, NoRoom, UnknownRule, TooLong}
 
@@ -19,3 +20,10 @@ numbered TooLong t = no-reading 6 t
 -- THE PROMISE of a reading by rule n of the buffer s with the table t: its numbers and every word of the table are the definition's
 pub record Answers (n : ℕ) (s t : List ℕ) (r : Answer) (t′ : List ℕ) : Type 0 where
   pub is : numbered r t′ ≡ result n s t
+
+-- the answer to a pass that failed
+abbrev pub failed : Step → Answer
+failed (Took next nodes) = NotTheGrammar
+failed (More wanted) = Unfinished wanted
+failed Refused = NotTheGrammar
+failed Deep = TooDeep

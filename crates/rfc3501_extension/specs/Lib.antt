@@ -1,2 +1,1 @@
-pub mod Deepest
 pub mod Tails

@@ -1,46 +1,27 @@
--- A member of a uid set: from its numbers to its node, the smaller number first.
+-- A member of a uid set: the smaller number first; a number alone is a uid.
 use Prim.Native.Nat.{ℕ, _≤_, _<_}
-use mathlib.Core.Path.{_≡_, refl, _∙_}
-use mathlib.Core.List.{List}
+use mathlib.Core.Path.{refl}
 use borrow.Author.Tests.{le-leb, lt-leb}
 use Rattle.grammar.specs.Kinds.{kind-range, kind-uid}
-use Rattle.grammar.specs.Forest.{size}
-use Rattle.grammar.specs.Out.{took, followed-by}
 use Rattle.grammar.specs.Grammar.{uid-range, act}
-use Rattle.grammar.specs.Rfc4315.{uid-set-member}
-use Rattle.table.specs.declared.Step.{Step}
-use Rattle.table.specs.declared.Step.the-variants.{Took, More, Refused}
-use Rattle.table.specs.Table.{as-step, lay, over}
 use Rattle.table.specs.Fill.{act-table}
-use Rattle.table.specs.Promise.{Does}
-use Rattle.lists.specs.Numbered.{numbers-out, Numbered}
-use Rattle.lists.specs.declared.Member.{Member}
-use Rattle.lists.specs.declared.Member.the-variants.{One, Two, Short, Wrong}
-use Rattle.lists.proofs.Members.{member-is}
+use Rattle.lists.proofs.Members.{Flat, One, Two, numbers}
 
-uid-is : {s : List ℕ} {at : ℕ} {n : Member} {r : Step} {t t′ : List ℕ} → Numbered s at n
-    → r ≡ as-step (followed-by (numbers-out n) (λ end f. took end (act uid-range at end f)))
-    → t′ ≡ lay (followed-by (numbers-out n) (λ end f. took end (act uid-range at end f))) t → Does 0 uid-set-member s at r t t′
-unfolding act-table uid-set-member
-uid-is w p q = member-is w (λ o below. refl) p q
+pub uid-flat : Flat uid-range
+unfolding act-table
+uid-flat = record { lays = λ at o below t. refl }
 
-module _ {s : List ℕ} {at : ℕ} {n : Member} (w : Numbered s at n) where
-  pub uid-one : {e a : ℕ} {t t′ : List ℕ} → n ≡ One e a → t′ ≡ over kind-uid a a 1 t → Does 0 uid-set-member s at (Took e 1) t t′
-  unfolding act size
-  uid-one p q = uid-is w (rw p) (rw p q)
+pub uid-one : {v : ℕ} → One uid-range v kind-uid v v
+unfolding act
+uid-one = record { makes = λ at end. refl }
 
-  -- in order
-  pub uid-up : {e a b : ℕ} {t t′ : List ℕ} → n ≡ Two e a b → a ≤ b → t′ ≡ over kind-range a b 1 t → Does 0 uid-set-member s at (Took e 1) t t′
-  unfolding act size
-  uid-up {a = a} {b = b} p l q = uid-is w (rw p) (rw (p, le-leb a b l) q)
+-- in order, and backwards
+pub uid-up : {v w : ℕ} → v ≤ w → Two uid-range v w kind-range v w
+unfolding act
+uid-up {v} {w} l = record { makes = λ at end. rw (le-leb v w l) }
 
-  -- and backwards
-  pub uid-down : {e a b : ℕ} {t t′ : List ℕ} → n ≡ Two e a b → b < a → t′ ≡ over kind-range b a 1 t → Does 0 uid-set-member s at (Took e 1) t t′
-  unfolding act size
-  uid-down {a = a} {b = b} p l q = uid-is w (rw p) (rw (p, lt-leb a b l) q)
+pub uid-down : {v w : ℕ} → w < v → Two uid-range v w kind-range w v
+unfolding act
+uid-down {v} {w} l = record { makes = λ at end. rw (lt-leb v w l) }
 
-  pub uid-short : {t : List ℕ} → n ≡ Short → Does 0 uid-set-member s at (More 0) t t
-  uid-short p = uid-is w (rw p) (rw p)
-
-  pub uid-wrong : {t : List ℕ} → n ≡ Wrong → Does 0 uid-set-member s at Refused t t
-  uid-wrong p = uid-is w (rw p) (rw p)
+pub ruleset uids = (uid-flat, uid-one, uid-up, uid-down, numbers)

@@ -1,23 +1,16 @@
 //! METADATA's entry names and responses: imap-proto 0.17.0's src/rfc5464.rs without its response codes.
 //! A name is checked in stages, each at a place in the name.
 
-use core::Header;
-use core::Quote;
-use core::Run;
-use table::Step;
 ghost use mathlib.Core.Path.{_≡_};
-ghost use Prim.Native.Nat.{ℕ, _+_, _≤_};
+ghost use Prim.Native.Nat.{_≤_};
 ghost use lib.ListN.{length, drop};
-ghost use Rattle.grammar.specs.Kinds.{kind-bytes};
-ghost use Rattle.grammar.specs.Scan.{take-while1, astring-chars};
 ghost use Rattle.grammar.specs.EntryName.{is-entry-component-char, check-entry-name};
-ghost use Rattle.grammar.specs.Grammar.{G, leaf, literal, does, node};
 ghost use Rattle.grammar.specs.Notation.{sp, _⋯_, separated-list1, parenthesized-nonempty-list};
-ghost use Rattle.grammar.specs.Core.{quoted, string, astring, nstring};
+ghost use Rattle.grammar.specs.Core.{nstring};
 ghost use Rattle.grammar.specs.Rfc5464.{entry-name, entry-value, entry-list, metadata-common, metadata-solicited, metadata-unsolicited};
-ghost use Rattle.table.specs.Promise.{Room, RoomAfter, Does, Goes};
+ghost use Rattle.table.specs.Promise.{Room, Stands, Reads};
 ghost use Rattle.rfc5464.specs.Stages.{begins, private-shared-stage, admin-stage, vendor-comment-stage, Vendors, Paths};
-ghost use Rattle.rfc5464.specs.Ranged.{Ranged};
+ghost use Rattle.rfc5464.specs.Content.{Spelled, Checked};
 
 // Where the check of a name is: at its beginning; before an optional /admin, before /vendor or /comment, before a path, at
 // a place in the name; at its end, either way.
@@ -28,18 +21,6 @@ pub enum EntryParseStage {
     Path(usize),
     Done,
     Fail,
-}
-
-// A string's content and the place behind the string; unfinished, with the bytes that are missing of a literal's content;
-// not the grammar.
-pub enum Content {
-    Range {
-        start: usize,
-        end: usize,
-        next: usize,
-    },
-    Short(usize),
-    Wrong,
 }
 
 // ----- entry names -----
@@ -85,10 +66,10 @@ fn starts_with(name: &[u8], l: usize, word: &[u8]) -> bool
 fn check_private_shared(name: &[u8]) -> EntryParseStage
     ensures { λ r. ⌜ r ≡ private-shared-stage (now (name .entry)) ⌝ }
 {
-    if starts_with(name, 0, b"/private") {
+    if starts_with(&*name, 0, b"/private") {
         return EntryParseStage::VendorComment(8);
     }
-    if starts_with(name, 0, b"/shared") {
+    if starts_with(&*name, 0, b"/shared") {
         return EntryParseStage::Admin(7);
     }
     EntryParseStage::Fail
@@ -98,7 +79,7 @@ fn check_admin(name: &[u8], l: usize) -> EntryParseStage
     requires { ⌜ l ≤ length (now name) ⌝ }
     ensures { λ r. ⌜ r ≡ admin-stage (now (name .entry)) l ⌝ }
 {
-    if starts_with(name, l, b"/admin") {
+    if starts_with(&*name, l, b"/admin") {
         return EntryParseStage::Path(l + 6);
     }
     EntryParseStage::VendorComment(l)
@@ -125,11 +106,11 @@ fn check_vendor_comment(name: &[u8], l: usize) -> EntryParseStage
     requires { ⌜ l ≤ length (now name) ⌝ }
     ensures { λ r. ⌜ r ≡ vendor-comment-stage (now (name .entry)) l ⌝ }
 {
-    if starts_with(name, l, b"/comment") {
+    if starts_with(&*name, l, b"/comment") {
         return EntryParseStage::Path(l + 8);
     }
-    if starts_with(name, l, b"/vendor") {
-        return check_vendor(name, l + 7);
+    if starts_with(&*name, l, b"/vendor") {
+        return check_vendor(&*name, l + 7);
     }
     EntryParseStage::Fail
 }
@@ -170,16 +151,16 @@ fn check_entry_name(name: &[u8]) -> bool
     loop {
         match stage {
             EntryParseStage::PrivateShared => {
-                stage = check_private_shared(name);
+                stage = check_private_shared(&*name);
             }
             EntryParseStage::Admin(l) => {
-                stage = check_admin(name, l);
+                stage = check_admin(&*name, l);
             }
             EntryParseStage::VendorComment(l) => {
-                stage = check_vendor_comment(name, l);
+                stage = check_vendor_comment(&*name, l);
             }
             EntryParseStage::Path(l) => {
-                stage = check_path(name, l);
+                stage = check_path(&*name, l);
             }
             EntryParseStage::Done => {
                 return true;
@@ -191,352 +172,212 @@ fn check_entry_name(name: &[u8]) -> bool
     }
 }
 
-// ----- a string's bytes, found without a table -----
-
-fn quoted_range(s: &[u8], at: usize) -> Content
+// The content of an astring that was read from a place to a next one is an entry name.
+fn check_astring(s: &[u8], at: usize, next: usize) -> bool
     requires { ⌜ Room (now s) at ⌝ }
-    ensures { λ r. ⌜ Ranged quoted (now (s .entry)) at r ⌝ }
+    requires { ⌜ Spelled (now s) at next ⌝ }
+    ensures { λ r. ⌜ Checked (now (s .entry)) at next r ⌝ }
 {
-    if s.len() <= at {
-        return Content::Short(0);
+    let b = s[at];
+    if b == b'"' {
+        return check_entry_name(&s[at + 1..next - 1]);
     }
-    if s[at] != b'"' {
-        return Content::Wrong;
+    if b == b'{' {
+        let start = table::found_next(core::literal_header(&*s, at));
+        return check_entry_name(&s[start..next]);
     }
-    let start = at + 1;
-    let q = core::quoted_end(s, start);
-    match q {
-        Quote::End(next) => Content::Range {
-            start,
-            end: next - 1,
-            next,
-        },
-        Quote::Short => Content::Short(0),
-        Quote::Wrong => Content::Wrong,
-    }
+    check_entry_name(&s[at..next])
 }
 
-fn literal_range(s: &[u8], at: usize) -> Content
-    requires { ⌜ Room (now s) at ⌝ }
-    ensures { λ r. ⌜ Ranged literal (now (s .entry)) at r ⌝ }
+// An astring whose content is an entry name; its node is written before the check.
+pub fn entry_name(s: &[u8], c: u64, t: &mut [u32]) -> u64
+    requires { ⌜ Stands 0 (now s) c ⌝ }
+    ensures { λ q. ⌜ Reads 0 entry-name s c q t ⌝ }
 {
-    let h = core::literal_header(s, at);
-    match h {
-        Header::Content { start, count } => {
-            let end = start + count;
-            if end <= s.len() {
-                return Content::Range {
-                    start,
-                    end,
-                    next: end,
-                };
-            }
-            Content::Short(end - s.len())
-        }
-        Header::Short => Content::Short(0),
-        Header::Wrong => Content::Wrong,
-    }
-}
-
-fn string_range(s: &[u8], at: usize) -> Content
-    requires { ⌜ Room (now s) at ⌝ }
-    ensures { λ r. ⌜ Ranged string (now (s .entry)) at r ⌝ }
-{
-    let r = quoted_range(s, at);
-    let Content::Wrong = r else {
+    let r = core::astring(&*s, c, t);
+    if table::FAILED <= r {
         return r;
-    };
-    literal_range(s, at)
-}
-
-// 1*ASTRING-CHAR
-fn atom_range(s: &[u8], at: usize) -> Content
-    requires { ⌜ Room (now s) at ⌝ }
-    ensures { λ r. ⌜ Ranged (does (node kind-bytes) (leaf (take-while1 astring-chars))) (now (s .entry)) at r ⌝ }
-{
-    let run = core::astring_end(s, at);
-    match run {
-        Run::End(next) => {
-            if next == at {
-                return Content::Wrong;
-            }
-            Content::Range {
-                start: at,
-                end: next,
-                next,
-            }
-        }
-        Run::Short => Content::Short(0),
     }
-}
-
-fn astring_range(s: &[u8], at: usize) -> Content
-    requires { ⌜ Room (now s) at ⌝ }
-    ensures { λ r. ⌜ Ranged astring (now (s .entry)) at r ⌝ }
-{
-    let r = atom_range(s, at);
-    let Content::Wrong = r else {
+    if check_astring(&*s, table::place(c), table::place(r)) {
         return r;
-    };
-    string_range(s, at)
-}
-
-// An astring whose bytes are an entry name; its node is written before the check.
-pub fn entry_name(s: &[u8], at: usize, t: &mut [u32]) -> Step
-    requires { ⌜ Room (now s) at ⌝ }
-    ensures { λ r. ⌜ Does 0 entry-name (now (s .entry)) at r (now (t .entry)) (now (t .exit)) ⌝ }
-{
-    let range = astring_range(s, at);
-    match range {
-        Content::Range { start, end, next } => {
-            let r = core::bytes_node(t, start, end, next);
-            if check_entry_name(&s[start..end]) {
-                return r;
-            }
-            Step::Refused
-        }
-        Content::Short(wanted) => Step::More(wanted),
-        Content::Wrong => Step::Refused,
     }
-}
-
-fn then_entry_name(s: &[u8], r: Step, t: &mut [u32]) -> Step
-    requires { ⌜ RoomAfter (now s) r ⌝ }
-    ensures { λ q. ⌜ Goes 0 entry-name (now (s .entry)) r q (now (t .entry)) (now (t .exit)) ⌝ }
-{
-    let Step::Took { next, nodes } = r else {
-        return r;
-    };
-    let k = table::skip(t.len(), nodes);
-    let q = entry_name(s, next, &mut t[k..]);
-    table::add_nodes(nodes, q)
+    table::REFUSED
 }
 
 // ----- names with values -----
 
-// entry SP value
-fn name_and_value(s: &[u8], at: usize, t: &mut [u32]) -> Step
-    requires { ⌜ Room (now s) at ⌝ }
-    ensures { λ r. ⌜ Does 0 (entry-name ⋯ sp ⋯ nstring) (now (s .entry)) at r (now (t .entry)) (now (t .exit)) ⌝ }
+// SP entry
+fn sp_entry_name(s: &[u8], c: u64, t: &mut [u32]) -> u64
+    requires { ⌜ Stands 0 (now s) c ⌝ }
+    ensures { λ q. ⌜ Reads 0 (sp ⋯ entry-name) s c q t ⌝ }
 {
-    let r = entry_name(s, at, t);
-    let r = lists::then_char(s, r, b' ');
-    lists::then_nstring(s, r, t)
+    let r = core::char(&*s, c, b' ');
+    if table::FAILED <= r {
+        return r;
+    }
+    entry_name(&*s, r, t)
+}
+
+// entry SP value
+fn name_and_value(s: &[u8], c: u64, t: &mut [u32]) -> u64
+    requires { ⌜ Stands 0 (now s) c ⌝ }
+    ensures { λ q. ⌜ Reads 0 (entry-name ⋯ sp ⋯ nstring) s c q t ⌝ }
+{
+    let r = entry_name(&*s, c, t);
+    core::sp_nstring(&*s, r, t)
 }
 
 // entry-value = entry SP value
-fn entry_value(s: &[u8], at: usize, t: &mut [u32]) -> Step
-    requires { ⌜ Room (now s) at ⌝ }
-    ensures { λ r. ⌜ Does 0 entry-value (now (s .entry)) at r (now (t .entry)) (now (t .exit)) ⌝ }
+fn entry_value(s: &[u8], c: u64, t: &mut [u32]) -> u64
+    requires { ⌜ Stands 0 (now s) c ⌝ }
+    ensures { λ q. ⌜ Reads 0 entry-value s c q t ⌝ }
 {
-    let k = table::skip(t.len(), 1);
-    let r = name_and_value(s, at, &mut t[k..]);
-    table::finish(t, grammar::KIND_PAIR, at, r)
-}
-
-fn then_entry_value(s: &[u8], r: Step, t: &mut [u32]) -> Step
-    requires { ⌜ RoomAfter (now s) r ⌝ }
-    ensures { λ q. ⌜ Goes 0 entry-value (now (s .entry)) r q (now (t .entry)) (now (t .exit)) ⌝ }
-{
-    let Step::Took { next, nodes } = r else {
-        return r;
-    };
-    let k = table::skip(t.len(), nodes);
-    let q = entry_value(s, next, &mut t[k..]);
-    table::add_nodes(nodes, q)
+    if table::FAILED <= c {
+        return c;
+    }
+    let k = table::inside(t.len(), c);
+    let r = name_and_value(&*s, table::start(c), &mut t[k..]);
+    table::finish(t, grammar::KIND_PAIR, c, r)
 }
 
 // SP entry-value
-fn sp_entry_value(s: &[u8], at: usize, t: &mut [u32]) -> Step
-    requires { ⌜ Room (now s) at ⌝ }
-    ensures { λ r. ⌜ Does 0 (sp ⋯ entry-value) (now (s .entry)) at r (now (t .entry)) (now (t .exit)) ⌝ }
+fn sp_entry_value(s: &[u8], c: u64, t: &mut [u32]) -> u64
+    requires { ⌜ Stands 0 (now s) c ⌝ }
+    ensures { λ q. ⌜ Reads 0 (sp ⋯ entry-value) s c q t ⌝ }
 {
-    let r = core::char(s, at, b' ');
-    then_entry_value(s, r, t)
+    let r = core::char(&*s, c, b' ');
+    if table::FAILED <= r {
+        return r;
+    }
+    entry_value(&*s, r, t)
 }
 
 // entry-value *(SP entry-value)
-fn entry_values(s: &[u8], at: usize, t: &mut [u32]) -> Step
-    requires { ⌜ Room (now s) at ⌝ }
-    ensures { λ r. ⌜ Does 0 (separated-list1 sp entry-value) (now (s .entry)) at r (now (t .entry)) (now (t .exit)) ⌝ }
+fn entry_values(s: &[u8], c: u64, t: &mut [u32]) -> u64
+    requires { ⌜ Stands 0 (now s) c ⌝ }
+    ensures { λ q. ⌜ Reads 0 (separated-list1 sp entry-value) s c q t ⌝ }
 {
-    let k = table::skip(t.len(), 1);
-    let first = entry_value(s, at, &mut t[k..]);
-    let Step::Took { next, nodes } = first else {
+    if table::FAILED <= c {
+        return c;
+    }
+    let k = table::inside(t.len(), c);
+    let first = entry_value(&*s, table::start(c), &mut t[k..]);
+    if table::FAILED <= first {
         return first;
-    };
-    let mut e = next;
-    let mut n = nodes + 1;
-    let mut c: u32 = 1;
+    }
+    let mut e = first;
+    let mut count: u32 = 1;
     loop {
-        let k = table::skip(t.len(), n);
-        let r = sp_entry_value(s, e, &mut t[k..]);
-        match r {
-            Step::Took { next, nodes } => {
-                e = next;
-                n = nodes + n;
-                c = c + 1;
-            }
-            Step::Refused => {
-                table::put(t, grammar::KIND_LIST, c, 0, n as u32);
-                return Step::Took { next: e, nodes: n };
-            }
-            _ => {
-                return r;
-            }
+        let r = sp_entry_value(&*s, e, &mut t[k..]);
+        if table::FAILED <= r {
+            return table::list(t, c, e, count, r);
         }
+        e = r;
+        count += 1;
     }
 }
 
-fn then_entry_values(s: &[u8], r: Step, t: &mut [u32]) -> Step
-    requires { ⌜ RoomAfter (now s) r ⌝ }
-    ensures { λ q. ⌜ Goes 0 (separated-list1 sp entry-value) (now (s .entry)) r q (now (t .entry)) (now (t .exit)) ⌝ }
-{
-    let Step::Took { next, nodes } = r else {
-        return r;
-    };
-    let k = table::skip(t.len(), nodes);
-    let q = entry_values(s, next, &mut t[k..]);
-    table::add_nodes(nodes, q)
-}
-
 // entry-values = "(" entry-value *(SP entry-value) ")"; any run of blanks before ")"
-fn keyval_list(s: &[u8], at: usize, t: &mut [u32]) -> Step
-    requires { ⌜ Room (now s) at ⌝ }
-    ensures { λ r. ⌜ Does 0 (parenthesized-nonempty-list entry-value) (now (s .entry)) at r (now (t .entry)) (now (t .exit)) ⌝ }
+fn keyval_list(s: &[u8], c: u64, t: &mut [u32]) -> u64
+    requires { ⌜ Stands 0 (now s) c ⌝ }
+    ensures { λ q. ⌜ Reads 0 (parenthesized-nonempty-list entry-value) s c q t ⌝ }
 {
-    let r = core::char(s, at, b'(');
-    let r = then_entry_values(s, r, t);
-    let r = lists::then_space0(s, r);
-    lists::then_char(s, r, b')')
-}
-
-fn then_keyval_list(s: &[u8], r: Step, t: &mut [u32]) -> Step
-    requires { ⌜ RoomAfter (now s) r ⌝ }
-    ensures { λ q. ⌜ Goes 0 (parenthesized-nonempty-list entry-value) (now (s .entry)) r q (now (t .entry)) (now (t .exit)) ⌝ }
-{
-    let Step::Took { next, nodes } = r else {
-        return r;
-    };
-    let k = table::skip(t.len(), nodes);
-    let q = keyval_list(s, next, &mut t[k..]);
-    table::add_nodes(nodes, q)
-}
-
-// ----- names alone -----
-
-// SP entry
-fn sp_entry_name(s: &[u8], at: usize, t: &mut [u32]) -> Step
-    requires { ⌜ Room (now s) at ⌝ }
-    ensures { λ r. ⌜ Does 0 (sp ⋯ entry-name) (now (s .entry)) at r (now (t .entry)) (now (t .exit)) ⌝ }
-{
-    let r = core::char(s, at, b' ');
-    then_entry_name(s, r, t)
+    let r = core::char(&*s, c, b'(');
+    let r = entry_values(&*s, r, t);
+    let r = core::space0(&*s, r);
+    core::char(&*s, r, b')')
 }
 
 // entry *(SP entry)
-fn entry_names(s: &[u8], at: usize, t: &mut [u32]) -> Step
-    requires { ⌜ Room (now s) at ⌝ }
-    ensures { λ r. ⌜ Does 0 (separated-list1 sp entry-name) (now (s .entry)) at r (now (t .entry)) (now (t .exit)) ⌝ }
+fn entry_names(s: &[u8], c: u64, t: &mut [u32]) -> u64
+    requires { ⌜ Stands 0 (now s) c ⌝ }
+    ensures { λ q. ⌜ Reads 0 (separated-list1 sp entry-name) s c q t ⌝ }
 {
-    let k = table::skip(t.len(), 1);
-    let first = entry_name(s, at, &mut t[k..]);
-    let Step::Took { next, nodes } = first else {
+    if table::FAILED <= c {
+        return c;
+    }
+    let k = table::inside(t.len(), c);
+    let first = entry_name(&*s, table::start(c), &mut t[k..]);
+    if table::FAILED <= first {
         return first;
-    };
-    let mut e = next;
-    let mut n = nodes + 1;
-    let mut c: u32 = 1;
+    }
+    let mut e = first;
+    let mut count: u32 = 1;
     loop {
-        let k = table::skip(t.len(), n);
-        let r = sp_entry_name(s, e, &mut t[k..]);
-        match r {
-            Step::Took { next, nodes } => {
-                e = next;
-                n = nodes + n;
-                c = c + 1;
-            }
-            Step::Refused => {
-                table::put(t, grammar::KIND_LIST, c, 0, n as u32);
-                return Step::Took { next: e, nodes: n };
-            }
-            _ => {
-                return r;
-            }
+        let r = sp_entry_name(&*s, e, &mut t[k..]);
+        if table::FAILED <= r {
+            return table::list(t, c, e, count, r);
         }
+        e = r;
+        count += 1;
     }
 }
 
 // entry-list = entry *(SP entry); it may be empty
-fn entry_list(s: &[u8], at: usize, t: &mut [u32]) -> Step
-    requires { ⌜ Room (now s) at ⌝ }
-    ensures { λ r. ⌜ Does 0 entry-list (now (s .entry)) at r (now (t .entry)) (now (t .exit)) ⌝ }
+fn entry_list(s: &[u8], c: u64, t: &mut [u32]) -> u64
+    requires { ⌜ Stands 1 (now s) c ⌝ }
+    ensures { λ q. ⌜ Reads 0 entry-list s c q t ⌝ }
 {
-    let r = entry_names(s, at, t);
-    let Step::Refused = r else {
+    if table::FAILED <= c {
+        return c;
+    }
+    let r = entry_names(&*s, c, t);
+    if r != table::REFUSED {
         return r;
-    };
-    table::mark(t, at, grammar::KIND_LIST, 0)
+    }
+    table::mark(&*s, c, t, grammar::KIND_LIST, 0)
 }
-
-fn then_entry_list(s: &[u8], r: Step, t: &mut [u32]) -> Step
-    requires { ⌜ RoomAfter (now s) r ⌝ }
-    ensures { λ q. ⌜ Goes 0 entry-list (now (s .entry)) r q (now (t .entry)) (now (t .exit)) ⌝ }
-{
-    let Step::Took { next, nodes } = r else {
-        return r;
-    };
-    let k = table::skip(t.len(), nodes);
-    let q = entry_list(s, next, &mut t[k..]);
-    table::add_nodes(nodes, q)
-}
-
-// ----- METADATA responses -----
 
 // "METADATA" SP mailbox SP; the mailbox only quoted
-fn metadata_common(s: &[u8], at: usize, t: &mut [u32]) -> Step
-    requires { ⌜ Room (now s) at ⌝ }
-    ensures { λ r. ⌜ Does 0 metadata-common (now (s .entry)) at r (now (t .entry)) (now (t .exit)) ⌝ }
+fn metadata_common(s: &[u8], c: u64, t: &mut [u32]) -> u64
+    requires { ⌜ Stands 0 (now s) c ⌝ }
+    ensures { λ q. ⌜ Reads 0 metadata-common s c q t ⌝ }
 {
-    let r = core::tag_no_case(s, at, b"METADATA ");
-    let r = lists::then_quoted(s, r, t);
-    lists::then_char(s, r, b' ')
+    let r = core::tag_no_case(&*s, c, b"METADATA ");
+    let r = core::quoted(&*s, r, t);
+    core::char(&*s, r, b' ')
 }
 
 // A mailbox, and names with their values.
-fn mailbox_and_values(s: &[u8], at: usize, t: &mut [u32]) -> Step
-    requires { ⌜ Room (now s) at ⌝ }
-    ensures { λ r. ⌜ Does 0 (metadata-common ⋯ parenthesized-nonempty-list entry-value) (now (s .entry)) at r (now (t .entry)) (now (t .exit)) ⌝ }
+fn mailbox_and_values(s: &[u8], c: u64, t: &mut [u32]) -> u64
+    requires { ⌜ Stands 0 (now s) c ⌝ }
+    ensures { λ q. ⌜ Reads 0 (metadata-common ⋯ parenthesized-nonempty-list entry-value) s c q t ⌝ }
 {
-    let r = metadata_common(s, at, t);
-    then_keyval_list(s, r, t)
+    let r = metadata_common(&*s, c, t);
+    keyval_list(&*s, r, t)
 }
 
 // [RFC5464 - 4.4.1 METADATA Response with values]
-pub fn metadata_solicited(s: &[u8], at: usize, t: &mut [u32]) -> Step
-    requires { ⌜ Room (now s) at ⌝ }
-    ensures { λ r. ⌜ Does 0 metadata-solicited (now (s .entry)) at r (now (t .entry)) (now (t .exit)) ⌝ }
+pub fn metadata_solicited(s: &[u8], c: u64, t: &mut [u32]) -> u64
+    requires { ⌜ Stands 0 (now s) c ⌝ }
+    ensures { λ q. ⌜ Reads 0 metadata-solicited s c q t ⌝ }
 {
-    let k = table::skip(t.len(), 1);
-    let r = mailbox_and_values(s, at, &mut t[k..]);
-    table::finish(t, grammar::KIND_METADATA, at, r)
+    if table::FAILED <= c {
+        return c;
+    }
+    let k = table::inside(t.len(), c);
+    let r = mailbox_and_values(&*s, table::start(c), &mut t[k..]);
+    table::finish(t, grammar::KIND_METADATA, c, r)
 }
 
 // A mailbox, and names alone.
-fn mailbox_and_names(s: &[u8], at: usize, t: &mut [u32]) -> Step
-    requires { ⌜ Room (now s) at ⌝ }
-    ensures { λ r. ⌜ Does 0 (metadata-common ⋯ entry-list) (now (s .entry)) at r (now (t .entry)) (now (t .exit)) ⌝ }
+fn mailbox_and_names(s: &[u8], c: u64, t: &mut [u32]) -> u64
+    requires { ⌜ Stands 0 (now s) c ⌝ }
+    ensures { λ q. ⌜ Reads 0 (metadata-common ⋯ entry-list) s c q t ⌝ }
 {
-    let r = metadata_common(s, at, t);
-    then_entry_list(s, r, t)
+    let r = metadata_common(&*s, c, t);
+    entry_list(&*s, r, t)
 }
 
 // [RFC5464 - 4.4.2 Unsolicited METADATA Response without values]
-pub fn metadata_unsolicited(s: &[u8], at: usize, t: &mut [u32]) -> Step
-    requires { ⌜ Room (now s) at ⌝ }
-    ensures { λ r. ⌜ Does 0 metadata-unsolicited (now (s .entry)) at r (now (t .entry)) (now (t .exit)) ⌝ }
+pub fn metadata_unsolicited(s: &[u8], c: u64, t: &mut [u32]) -> u64
+    requires { ⌜ Stands 0 (now s) c ⌝ }
+    ensures { λ q. ⌜ Reads 0 metadata-unsolicited s c q t ⌝ }
 {
-    let k = table::skip(t.len(), 1);
-    let r = mailbox_and_names(s, at, &mut t[k..]);
-    table::finish(t, grammar::KIND_METADATA, at, r)
+    if table::FAILED <= c {
+        return c;
+    }
+    let k = table::inside(t.len(), c);
+    let r = mailbox_and_names(&*s, table::start(c), &mut t[k..]);
+    table::finish(t, grammar::KIND_METADATA, c, r)
 }

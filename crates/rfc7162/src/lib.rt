@@ -1,63 +1,64 @@
 //! The VANISHED response: imap-proto 0.17.0's src/rfc7162.rs.
 
-use table::Step;
-ghost use Rattle.grammar.specs.Notation.{_⋯_, _or_, exact, any-case, sp, space0, space1, opt, absent, skip-opt, opening, closing, separated-list1, separated-list0, many1, parenthesized-list, parenthesized-nonempty-list};
-ghost use Rattle.grammar.specs.Grammar.{mark};
-ghost use Rattle.grammar.specs.Kinds.{kind-vanished-earlier};
+ghost use Rattle.grammar.specs.Notation.{_⋯_, any-case, space1};
 ghost use Rattle.grammar.specs.Core.{sequence-set};
-ghost use Rattle.grammar.specs.Rfc7162.{earlier, resp-vanished};
-ghost use Rattle.table.specs.Promise.{Room, RoomAfter, Does, Goes, Skims, SkimsOn};
+ghost use Rattle.grammar.specs.Rfc7162.{vanished-earlier, vanished, resp-vanished};
+ghost use Rattle.table.specs.Promise.{Stands, Reads};
 
-// A run of blanks and "(EARLIER)", with the node of that kind
-fn earlier_mark(s: &[u8], at: usize, t: &mut [u32]) -> Step
-    requires { ⌜ Room (now s) at ⌝ }
-    ensures { λ r. ⌜ Does 0 (space1 ⋯ any-case "(EARLIER)" ⋯ mark kind-vanished-earlier 0) (now (s .entry)) at r (now (t .entry)) (now (t .exit)) ⌝ }
+// "VANISHED" SP "(EARLIER)" SP known-uids
+fn vanished_earlier_fields(s: &[u8], c: u64, t: &mut [u32]) -> u64
+    requires { ⌜ Stands 0 (now s) c ⌝ }
+    ensures { λ q. ⌜ Reads 0 (any-case "VANISHED" ⋯ space1 ⋯ any-case "(EARLIER)" ⋯ space1 ⋯ sequence-set) s c q t ⌝ }
 {
-    let r = core::space1(s, at);
-    let r = lists::then_tag_no_case(s, r, b"(EARLIER)");
-    table::then_mark(t, r, grammar::KIND_VANISHED_EARLIER, 0)
+    let r = core::tag_no_case(&*s, c, b"VANISHED");
+    let r = core::space1(&*s, r);
+    let r = core::tag_no_case(&*s, r, b"(EARLIER)");
+    let r = core::space1(&*s, r);
+    lists::sequence_set(&*s, r, t)
 }
 
-// [SP "(EARLIER)"]: the node that VANISHED becomes
-fn earlier(s: &[u8], at: usize, t: &mut [u32]) -> Step
-    requires { ⌜ Room (now s) at ⌝ }
-    ensures { λ r. ⌜ Does 0 earlier (now (s .entry)) at r (now (t .entry)) (now (t .exit)) ⌝ }
+fn vanished_earlier(s: &[u8], c: u64, t: &mut [u32]) -> u64
+    requires { ⌜ Stands 0 (now s) c ⌝ }
+    ensures { λ q. ⌜ Reads 0 vanished-earlier s c q t ⌝ }
 {
-    let r = earlier_mark(s, at, t);
-    let Step::Refused = r else {
+    if table::FAILED <= c {
+        return c;
+    }
+    let k = table::inside(t.len(), c);
+    let r = vanished_earlier_fields(&*s, table::start(c), &mut t[k..]);
+    table::finish(t, grammar::KIND_VANISHED_EARLIER, c, r)
+}
+
+// "VANISHED" SP known-uids
+fn vanished_fields(s: &[u8], c: u64, t: &mut [u32]) -> u64
+    requires { ⌜ Stands 0 (now s) c ⌝ }
+    ensures { λ q. ⌜ Reads 0 (any-case "VANISHED" ⋯ space1 ⋯ sequence-set) s c q t ⌝ }
+{
+    let r = core::tag_no_case(&*s, c, b"VANISHED");
+    let r = core::space1(&*s, r);
+    lists::sequence_set(&*s, r, t)
+}
+
+fn vanished(s: &[u8], c: u64, t: &mut [u32]) -> u64
+    requires { ⌜ Stands 0 (now s) c ⌝ }
+    ensures { λ q. ⌜ Reads 0 vanished s c q t ⌝ }
+{
+    if table::FAILED <= c {
+        return c;
+    }
+    let k = table::inside(t.len(), c);
+    let r = vanished_fields(&*s, table::start(c), &mut t[k..]);
+    table::finish(t, grammar::KIND_VANISHED, c, r)
+}
+
+// expunged-resp = "VANISHED" [SP "(EARLIER)"] SP known-uids; what has no "(EARLIER)" is refused before its set is read
+pub fn resp_vanished(s: &[u8], c: u64, t: &mut [u32]) -> u64
+    requires { ⌜ Stands 0 (now s) c ⌝ }
+    ensures { λ q. ⌜ Reads 0 resp-vanished s c q t ⌝ }
+{
+    let r = vanished_earlier(&*s, c, t);
+    if r != table::REFUSED {
         return r;
-    };
-    table::mark(t, at, grammar::KIND_VANISHED, 0)
-}
-
-fn then_earlier(s: &[u8], r: Step, t: &mut [u32]) -> Step
-    requires { ⌜ RoomAfter (now s) r ⌝ }
-    ensures { λ q. ⌜ Goes 0 earlier (now (s .entry)) r q (now (t .entry)) (now (t .exit)) ⌝ }
-{
-    let Step::Took { next, nodes } = r else {
-        return r;
-    };
-    let k = table::skip(t.len(), nodes);
-    let q = earlier(s, next, &mut t[k..]);
-    table::add_nodes(nodes, q)
-}
-
-// "VANISHED" [SP "(EARLIER)"] SP known-uids
-fn vanished_fields(s: &[u8], at: usize, t: &mut [u32]) -> Step
-    requires { ⌜ Room (now s) at ⌝ }
-    ensures { λ r. ⌜ Does 0 (any-case "VANISHED" ⋯ earlier ⋯ space1 ⋯ sequence-set) (now (s .entry)) at r (now (t .entry)) (now (t .exit)) ⌝ }
-{
-    let r = core::tag_no_case(s, at, b"VANISHED");
-    let r = then_earlier(s, r, t);
-    let r = lists::then_space1(s, r);
-    lists::then_sequence_set(s, r, t)
-}
-
-// expunged-resp = "VANISHED" [SP "(EARLIER)"] SP known-uids
-pub fn resp_vanished(s: &[u8], at: usize, t: &mut [u32]) -> Step
-    requires { ⌜ Room (now s) at ⌝ }
-    ensures { λ r. ⌜ Does 0 resp-vanished (now (s .entry)) at r (now (t .entry)) (now (t .exit)) ⌝ }
-{
-    let r = vanished_fields(s, at, t);
-    table::head(t, at, r)
+    }
+    vanished(&*s, c, t)
 }

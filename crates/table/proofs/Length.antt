@@ -1,13 +1,11 @@
 -- No reading changes the table's length.
-use Prim.Native.Nat.{ℕ, zero, suc, _+_, _*_, _≤_, _<_, _^_}
+use Prim.Native.Nat.{ℕ, zero, suc, _+_, _*_, _≤_, _<_}
 use mathlib.Core.Path.{_≡_, refl, ap, _∙_}
 use mathlib.Core.Bool.{Bool, true, false}
 use mathlib.Core.List.{List, [], _∷_, _++_}
 use native.Mathlib.Omega.{arith}
 use lib.ListN.{length, take, drop, getD, length-append, length-take, length-drop}
 use lib.Dec.{leb}
-use mir.Val.{Fits}
-use mir.Syntax.{w64}
 use borrow.Author.Tests.{leb-true}
 use Rattle.grammar.specs.Forest.{Forest, none, tree, size, count}
 use Rattle.grammar.specs.Out.{Out, took, more, refused, deep, branch, followed-by}
@@ -15,11 +13,9 @@ use Rattle.grammar.specs.Scan.{leaf-at, literal-at}
 use Rattle.grammar.specs.Grammar.{Act, node, listed, heads, range, uid-range, dropped, act, Inner, G, leaf, literal, nothing, mark, seq, alt, star, does, entry, ref, Reader, run}
 use Rattle.grammar.specs.Rules.{levels}
 use Rattle.grammar.specs.BodyStructure.{grammar}
-use Rattle.table.specs.declared.Step.{Step}
-use Rattle.table.specs.declared.Step.the-variants.{Took, More, Refused, Deep}
+use Rattle.table.specs.Cursor.{Step, Took, More, Refused, Deep}
 use Rattle.table.specs.Table.{as-step, then-table, else-table, parent-table, list-table, head-table, lay, over, rehead, onward, skip-to}
 use Rattle.table.specs.Fill.{Filler, act-table, repeat-table, fill-with, fill-levels, fill}
-use Rattle.table.specs.Promise.{Does, Skipped}
 
 -- four words for four
 four-length : (x : Bool) (k a b n : ℕ) (t : List ℕ) → leb 4 (length t) ≡ x
@@ -129,10 +125,3 @@ fill-levels-length (suc d) n s at t = fill-with-length (levels d) (fill-levels d
 -- THE LAW: at any number of levels
 pub fill-length : (d : ℕ) (g : G) → Keeps (fill d g)
 fill-length d g = fill-with-length (levels d) (fill-levels d) (fill-levels-length d) g
-
-pub same : {d : ℕ} {g : G} {s : List ℕ} {at : ℕ} {r : Step} {t t′ : List ℕ} → Does d g s at r t t′ → length t′ ≡ length t
-same {d} {g} {s} {at} {t = t} does-g = ap length (does-g .wrote) ∙ fill-length d g s at t
-
--- what is asked where the rest of the table is lent
-pub lent-fits : {n k L L′ : ℕ} → Skipped L n k → L ≡ L′ → L′ * 4 < 2 ^ 63 → Fits w64 (k * 4)
-lent-fits z e h = omega (arith, z .within)

@@ -1,102 +1,94 @@
--- A list's loop: its invariant, and the laws of its turns and its ends.
-use Prim.Native.Nat.{ℕ, zero, suc, _+_, _*_, _-_, _/_, _≤_, _<_}
+-- A list lends its items the rest of the table: the invariant of its loop, and the laws of its turns and its ends.
+use Prim.Native.Nat.{ℕ, zero, suc, _+_, _-_, _*_, _≤_, _<_}
 use mathlib.Core.Path.{_≡_, refl, sym, ap, subst, _∙_}
-use mathlib.Core.Logic.{inl, inr}
 use mathlib.Core.Bool.{Bool, true, false}
-use mathlib.Core.List.{List, [], _∷_, _++_, append-assoc}
+use mathlib.Core.List.{List}
 use native.Mathlib.Omega.{arith}
-use lib.ListN.{length, take, drop, length-take, length-drop}
-use lib.Seq.{take-at, drop-at, take-add, drop-drop, length-take-le}
-use lib.Dec.{T, leb, ltb, lt→ltb}
-use borrow.Author.Tests.{le-leb, lt-leb, leb-true, leb-false}
+use lib.Dec.{T, ltb, lt→ltb, eqb}
+use borrow.Author.Tests.{eq-eqb, eqb-true}
+use lib.ListN.{length, take, drop}
 use borrow.Rule.Slice.PartMut.{putMid}
 use Rattle.grammar.specs.Kinds.{kind-list}
 use Rattle.grammar.specs.Forest.{Forest, none, tree, size, count, beside}
-use Rattle.grammar.specs.Out.{Out, took, more, refused, deep, branch, followed-by, with-before, again, repeated}
+use Rattle.grammar.specs.Out.{Out, took, more, refused, deep, followed-by, with-before, again}
 use Rattle.grammar.specs.Grammar.{G, seq, star, does, listed, act, run}
-use Rattle.grammar.specs.Reading.{length-limit}
 use Rattle.grammar.proofs.Tests.{T-true}
 use Rattle.grammar.proofs.Forests.{size-beside}
-use Rattle.table.specs.declared.Step.{Step}
-use Rattle.table.specs.declared.Step.the-variants.{Took, More, Refused, Deep}
-use Rattle.table.specs.Table.{as-step, add-nodes, then-table, list-table, over, onward, skip-to}
-use Rattle.table.specs.Fill.{act-table, repeat-table, fill-with, find, fill}
-use Rattle.table.specs.Promise.{Room, Does, Skipped}
-use Rattle.table.proofs.Answers.{NotTook, Ends, Stops, stops, then-stops, then-table-stops, refusal, Found, found}
+use Rattle.grammar.proofs.Steps.{levels-star-step}
+use Rattle.table.specs.Cursor.{Step, Took, More, Refused, Deep, step, first-failure, refusal, behind, place-of, nodes-of, Stops, find}
+use Rattle.table.specs.Table.{as-step, onward, over, then-table, list-table}
+use Rattle.table.specs.Fill.{fill, fill-with, act-table, repeat-table}
+use Rattle.table.specs.Promise.{Stands, Went, Goes, Placed, Put, Lends, Listed}
+use Rattle.table.proofs.Cursors.{at-place, step-took, step-failed, refused-is, step-refused}
 use Rattle.table.proofs.Length.{fill-length, onward-length}
-use Rattle.table.proofs.Sequence.{lent, onward-same}
-use Rattle.table.proofs.Bounds.{item, Turned, turned}
+use Rattle.table.proofs.Onward.{onward-zero, onward-compose, onward-onward, onward-same, onward-as, lent-out, lent-length, shift}
+use Rattle.table.proofs.Going.{from, gone}
+use Rattle.table.proofs.Bounds.{paid, item, item-costs, paid-stands, starts}
+use Rattle.table.proofs.Structure.{Apart, apart-first, apart-next, apart-drop, apart-length, apart-parent, apart-no-parent, goes-length}
 use Rattle.table.proofs.Trees.{count-beside, lone, one-tree}
 
--- a part of a part ------------------------------------------------------------------------------------------------------------
+-- a repetition writes an item, and then the repetition again behind it -----------------------------------------------------------
 
-skip-add : (len p n : ℕ) → skip-to len p + skip-to (len - skip-to len p) n ≡ skip-to len (n + p)
-unfolding skip-to
-skip-add len p n = first (leb p (len / 4)) refl
-  where
-    -- where the first part lies within the table
-    second : (x : Bool) → p ≤ len / 4 → leb n ((len - 4 * p) / 4) ≡ x
-        → 4 * p + branch x (λ u. 4 * n) (λ u. len - 4 * p) ≡ branch (leb (n + p) (len / 4)) (λ u. 4 * (n + p)) (λ u. len)
-    second true l e = let m = leb-true n ((len - 4 * p) / 4) e in rw (le-leb (n + p) (len / 4) (omega arith)) (omega arith)
-    second false l e = let m = leb-false n ((len - 4 * p) / 4) e in rw (lt-leb (n + p) (len / 4) (omega arith)) (omega arith)
-
-    -- and where it does not, nothing is left
-    none-left : (x : Bool) → len / 4 < p → leb n ((len - len) / 4) ≡ x
-        → len + branch x (λ u. 4 * n) (λ u. len - len) ≡ branch (leb (n + p) (len / 4)) (λ u. 4 * (n + p)) (λ u. len)
-    none-left true l e = let m = leb-true n ((len - len) / 4) e in rw (lt-leb (n + p) (len / 4) (omega arith)) (omega arith)
-    none-left false l e = rw (lt-leb (n + p) (len / 4) (omega arith)) (omega arith)
-
-    first : (x : Bool) → leb p (len / 4) ≡ x
-        → branch x (λ u. 4 * p) (λ u. len) + branch (leb n ((len - branch x (λ u. 4 * p) (λ u. len)) / 4)) (λ u. 4 * n) (λ u. len - branch x (λ u. 4 * p) (λ u. len))
-        ≡ branch (leb (n + p) (len / 4)) (λ u. 4 * (n + p)) (λ u. len)
-    first true e = second (leb n ((len - 4 * p) / 4)) (leb-true p (len / 4) e) refl
-    first false e = none-left (leb n ((len - len) / 4)) (leb-false p (len / 4) e) refl
-
-skip-in : (len n : ℕ) → skip-to len n ≤ len
-unfolding skip-to
-skip-in len n = go (leb n (len / 4)) refl
-  where
-    go : (x : Bool) → leb n (len / 4) ≡ x → branch x (λ u. 4 * n) (λ u. len) ≤ len
-    go true e = let m = leb-true n (len / 4) e in omega arith
-    go false e = omega arith
-
-onward-onward : (p n : ℕ) (F : List ℕ → List ℕ) (t : List ℕ) → onward p (λ u. onward n F u) t ≡ onward (n + p) F t
-unfolding onward
-onward-onward p n F t =
-    let a = skip-to (length t) p in
-    let b = skip-to (length t - a) n in
-    rw (length-drop a t, ← skip-add (length t) p n, take-add a b t, drop-drop b a t)
-    (sym (append-assoc (take a t) (take b (drop a t)) (F (drop (a + b) t))))
-
-onward-compose : (p : ℕ) (A B : List ℕ → List ℕ) (t : List ℕ) → ((u : List ℕ) → length (B u) ≡ length u)
-    → onward p (λ u. A (B u)) t ≡ onward p A (onward p B t)
-unfolding onward
-onward-compose p A B t keeps =
-    let a = skip-to (length t) p in
-    let l : length (take a t ++ B (drop a t)) ≡ length t = onward-length p B t keeps in
-    let k : length (take a t) ≡ a = length-take-le a t (skip-in (length t) p) in
-    rw (l, take-at (take a t) (B (drop a t)) a k, drop-at (take a t) (B (drop a t)) a k)
-
--- the turns, from n nodes on or from n + p
-module _ (item-at : ℕ → Step) (write : ℕ → List ℕ → List ℕ) (keeps : (i : ℕ) (u : List ℕ) → length (write i u) ≡ length u) where
-  shift : (k e n p : ℕ) (t : List ℕ) → onward p (λ u. repeat-table k item-at write e n u) t ≡ repeat-table k item-at write e (n + p) t
+-- any two numbers of turns do that are more than the bytes left
+module _ (limit : ℕ) (item-at : ℕ → Step) (write : ℕ → List ℕ → List ℕ) (ends : (i e n : ℕ) → i ≤ limit → item-at i ≡ Took e n → (i < e) × (e ≤ limit)) where
+  turns-enough : (k k′ at n : ℕ) (t : List ℕ) → at ≤ limit → limit < k + at → limit < k′ + at
+      → repeat-table k item-at write at n t ≡ repeat-table k′ item-at write at n t
   unfolding repeat-table
-  shift zero e n p t = sym (onward-same p t)
-  shift (suc k) e n p t = go (item-at e) (λ e′ m u. shift k e′ (m + n) p u)
+  turns-enough zero k′ at n t b l m = absurd (omega arith)
+  turns-enough (suc k) zero at n t b l m = absurd (omega arith)
+  turns-enough (suc k) (suc k′) at n t b l m =
+      go (item-at at) (λ e j p. let x = ends at e j b p in turns-enough k k′ e (j + n) (onward n (write at) t) (x .1) (omega (arith, x .0)) (omega (arith, x .0)))
     where
-      go : (r : Step) → ((e′ m : ℕ) (u : List ℕ) → onward p (λ v. repeat-table k item-at write e′ (m + n) v) u ≡ repeat-table k item-at write e′ (m + n + p) u)
-          → onward p (λ u. then-table r (onward n (write e) u) (λ e′ m. repeat-table k item-at write e′ (m + n) (onward n (write e) u))) t
-          ≡ then-table r (onward (n + p) (write e) t) (λ e′ m. repeat-table k item-at write e′ (m + (n + p)) (onward (n + p) (write e) t))
-      go (Took e′ m) h =
-          onward-compose p (λ v. repeat-table k item-at write e′ (m + n) v) (λ u. onward n (write e) u) t (λ u. onward-length n (write e) u (keeps e))
-          ∙ h e′ m (onward p (λ u. onward n (write e) u) t)
-          ∙ ap (repeat-table k item-at write e′ (m + n + p)) (onward-onward p n (write e) t)
-          ∙ ap (λ (x : ℕ). repeat-table k item-at write e′ x (onward (n + p) (write e) t)) (omega arith)
-      go (More w) h = onward-onward p n (write e) t
-      go Refused h = onward-onward p n (write e) t
-      go Deep h = onward-onward p n (write e) t
+      go : (r : Step)
+          → ((e j : ℕ) → r ≡ Took e j → repeat-table k item-at write e (j + n) (onward n (write at) t) ≡ repeat-table k′ item-at write e (j + n) (onward n (write at) t))
+          → then-table r (onward n (write at) t) (λ e j. repeat-table k item-at write e (j + n) (onward n (write at) t))
+          ≡ then-table r (onward n (write at) t) (λ e j. repeat-table k′ item-at write e (j + n) (onward n (write at) t))
+      go (Took e j) h = h e j refl
+      go (More w) h = refl
+      go Refused h = refl
+      go Deep h = refl
 
--- the forests of the turns ------------------------------------------------------------------------------------------------------
+module _ (d : ℕ) (h : G) (s : List ℕ) (m : T (item h)) where
+  item-ends : (i e n : ℕ) → i ≤ length s → as-step (find d h s i) ≡ Took e n → (i < e) × (e ≤ length s)
+  item-ends i e n b p = go (find d h s i) refl p
+    where
+      go : (o : Out) → find d h s i ≡ o → as-step o ≡ Took e n → (i < e) × (e ≤ length s)
+      go (took e′ f) q p =
+          let x = item-costs d h s i m b q in
+          let z : e′ ≡ e = cc in
+          (omega (arith, x .1), omega (arith, x .0 .inside))
+      go (more w) q p = let z : _≡_ {A = ℕ} 0 1 = cc in absurd (omega arith)
+      go refused q p = let z : _≡_ {A = ℕ} 0 1 = cc in absurd (omega arith)
+      go deep q p = let z : _≡_ {A = ℕ} 0 1 = cc in absurd (omega arith)
+
+  star-fill : (at : ℕ) (t : List ℕ) → at ≤ length s
+      → fill d (star h) s at t
+      ≡ then-table (as-step (find d h s at)) (fill d h s at t) (λ e n. onward n (λ u. fill d (star h) s e u) (fill d h s at t))
+  unfolding fill-with repeat-table
+  star-fill at t b = ap first (onward-zero (λ u. fill d h s at u) t) ∙ go (as-step (find d h s at)) refl
+    where
+      turns : ℕ → ℕ → ℕ → List ℕ → List ℕ
+      turns k e n u = repeat-table k (λ i. as-step (find d h s i)) (λ i v. fill d h s i v) e n u
+
+      first : List ℕ → List ℕ
+      first u = then-table (as-step (find d h s at)) u (λ e n. turns (length s) e (n + 0) u)
+
+      go : (r : Step) → as-step (find d h s at) ≡ r
+          → then-table r (fill d h s at t) (λ e n. turns (length s) e (n + 0) (fill d h s at t))
+          ≡ then-table r (fill d h s at t) (λ e n. onward n (λ u. turns (suc (length s)) e 0 u) (fill d h s at t))
+      go (Took e n) p =
+          let x = item-ends at e n b p in
+          let U = fill d h s at t in
+          ap (λ (j : ℕ). turns (length s) e j U) (omega arith)
+          ∙ turns-enough (length s) (λ i. as-step (find d h s i)) (λ i v. fill d h s i v) item-ends (length s) (suc (length s)) e (0 + n) U (x .1) (omega (arith, x .0)) (omega arith)
+          ∙ sym (shift (λ i. as-step (find d h s i)) (λ i v. fill d h s i v) (λ i u. fill-length d h s i u) (suc (length s)) e 0 n U)
+      go (More w) p = refl
+      go Refused p = refl
+      go Deep p = refl
+
+-- a first item, and more
+abbrev pub list-of : G → G → G
+list-of g h = does listed (seq g (star h))
 
 beside-assoc : (f g h : Forest) → beside (beside f g) h ≡ beside f (beside g h)
 unfolding beside
@@ -114,276 +106,290 @@ with-both f g (more w) = refl
 with-both f g refused = refl
 with-both f g deep = refl
 
-again-took : (e′ at : ℕ) (f : Forest) (next : ℕ → Out) → at < e′ → again (took e′ f) at next ≡ with-before f (next e′)
-again-took e′ at f next l = rw (T-true (ltb at e′) (lt→ltb at e′ l))
+again-took : (at e : ℕ) (f : Forest) (next : ℕ → Out) → at < e → again (took e f) at next ≡ with-before f (next e)
+again-took at e f next l = rw (T-true (ltb at e) (lt→ltb at e l))
 
--- the invariant ---------------------------------------------------------------------------------------------------------------------
+-- what a cursor that is no failure found
+record Found (o : Out) : Type 0 where
+  end : ℕ
+  forest : Forest
+  is : o ≡ took end forest
 
--- what is left to read and to write, by any number of turns that is enough, from (e, n, c, t) as from (e₀, n₀, c₀, t₀): the items
--- between them made the forest `items`. n are the nodes so far, the list's own among them; c are the items.
-pub record Left (d : ℕ) (h : G) (s : List ℕ) (e₀ n₀ : ℕ) (t₀ : List ℕ) (items : Forest) (e n : ℕ) (t : List ℕ) (k₀ : ℕ) : Type 0 where
-  pub turns : ℕ
-  pub enough : length s < turns + e
-  pub reads : repeated k₀ (λ i. find d h s i) e₀ ≡ with-before items (repeated turns (λ i. find d h s i) e)
-  pub writes :
-      repeat-table k₀ (λ i. as-step (find d h s i)) (λ i u. fill d h s i u) e₀ n₀ t₀
-      ≡ repeat-table turns (λ i. as-step (find d h s i)) (λ i u. fill d h s i u) e n t
+found : {n q : ℕ} {w : List ℕ → List ℕ} {t t′ : List ℕ} (o : Out) → Went n o w q t t′ → q < first-failure → Found o
+found (took e f) w h = record { end = e; forest = f; is = refl }
+found {q = q} (more u) w h = absurd (subst Stops (sym (w .read) ∙ step-took q h) tt)
+found {q = q} refused w h = absurd (subst Stops (sym (w .read) ∙ step-took q h) tt)
+found {q = q} deep w h = absurd (subst Stops (sym (w .read) ∙ step-took q h) tt)
 
--- THE INVARIANT of a list's loop, from where it begins to where it is
-pub record Turning (d : ℕ) (h : G) (s : List ℕ) (e₀ n₀ c₀ : ℕ) (t₀ : List ℕ) (e n c : ℕ) (t : List ℕ) : Type 0 where
+-- what one that is a failure found, if it is no refusal
+ended : {n q : ℕ} {w : List ℕ → List ℕ} {t t′ : List ℕ} {A : Type 0} (o : Out) → Went n o w q t t′ → first-failure ≤ q → (q ≡ refusal → ⊥)
+    → ((w : ℕ) → o ≡ more w → A) → (o ≡ deep → A) → A
+ended {q = q} (took e f) w h r x y = absurd (subst Stops (w .read) (step-failed q h))
+ended (more u) w h r x y = x u refl
+ended {q = q} refused w h r x y = absurd (r (refused-is q (w .read)))
+ended deep w h r x y = y refl
+
+-- THE INVARIANT of a list's loop: `number` items were read from the place `at` to the cursor `cur`, into the part of T₀ from k on
+pub record Turning (d : ℕ) (g h : G) (s : List ℕ) (c at k : ℕ) (T₀ : List ℕ) (cur number : ℕ) (t : List ℕ) : Type 0 where
   pub items : Forest
-  pub nodes : n ≡ size items + n₀
-  pub number : c ≡ count items + c₀
-  pub left : (k₀ : ℕ) → length s < k₀ + e₀ → Left d h s e₀ n₀ t₀ items e n t k₀
-  pub forward : e₀ ≤ e
-  pub inside : e ≤ length s
-  pub few : n + 4 * e₀ ≤ n₀ + 4 * e
-  pub short : c + e₀ ≤ c₀ + e
+  pub end : ℕ
+  pub part : List ℕ
+  pub apart : Apart (nodes-of (step c)) k T₀ part t
+  pub here : step cur ≡ Took end (size items)
+  pub left : find d (seq g (star h)) s at ≡ with-before items (find d (star h) s end)
+  pub writes : fill d (seq g (star h)) s at (drop k T₀) ≡ onward (size items) (λ u. fill d (star h) s end u) part
+  pub counted : number ≡ count items
+  pub stands : Stands 0 s cur
+  pub up : number ≤ end
+
+module _ {d : ℕ} {g : G} (h : G) {s : List ℕ} {c at : ℕ} (going : c < first-failure) (stands : Stands 0 s c) (placed : Placed c at) where
+  -- the first item
+  pub turning-first : {k cur : ℕ} {t v : List ℕ} → T (item g) → T (lone g) → Lends (length t) c k
+      → Goes d g s at cur (take (length t - k) (drop k t)) v → cur < first-failure
+      → Turning d g h s c at k t cur 1 (putMid k (length t - k) t v)
+  unfolding run fill-with
+  turning-first {k} {cur} {t} {v} m alone lends first on =
+      let w = first .went at 0 (starts going stands placed) in
+      let p : v ≡ fill d g s at (drop k t) = w .wrote ∙ onward-zero (λ u. fill d g s at u) _ ∙ ap (fill d g s at) (lent-out t k) in
+      let f = found (find d g s at) w on in
+      let inside : at ≤ length s = omega (arith, ap place-of (at-place going placed), stands .inside) in
+      let x = item-costs d g s at m inside (f .is) in
+      record {
+        items = f .forest;
+        end = f .end;
+        part = v;
+        apart = apart-next (apart-first lends) (ap length p ∙ fill-length d g s at (drop k t));
+        here = w .read ∙ ap (behind 0) (f .is) ∙ ap (Took (f .end)) (omega arith);
+        left = ap (λ (o : Out). followed-by o (λ e f. with-before f (find d (star h) s e))) (f .is);
+        writes =
+            ap (λ (o : Out). then-table (as-step o) (fill d g s at (drop k t)) (λ e n. onward n (λ u. fill d (star h) s e u) (fill d g s at (drop k t)))) (f .is)
+            ∙ ap (onward (size (f .forest)) (λ u. fill d (star h) s (f .end) u)) (sym p);
+        counted = sym (one-tree d g s at (f .end) (f .forest) alone inside (f .is));
+        stands = first .stands;
+        up = omega (arith, x .1);
+      }
+
+module _ {d : ℕ} {g h : G} {s : List ℕ} {c at : ℕ} where
+  module _ {k cur number r : ℕ} {T₀ t v : List ℕ} (inv : Turning d g h s c at k T₀ cur number t)
+      (next : Goes d h s cur r (take (length t - k) (drop k t)) v) where
+    inside : inv .end ≤ length s
+    inside = omega (arith, ap place-of (inv .here), inv .stands .inside)
+
+    turn : Went (size (inv .items)) (find d h s (inv .end)) (λ u. fill d h s (inv .end) u) r (inv .part) v
+    turn =
+        subst (λ (u : List ℕ). Went (size (inv .items)) (find d h s (inv .end)) (λ u. fill d h s (inv .end) u) r u v) (lent-out t k ∙ apart-drop (inv .apart))
+        (next .went (inv .end) (size (inv .items)) (inv .here))
+
+    turned : Apart (nodes-of (step c)) k T₀ v (putMid k (length t - k) t v)
+    turned =
+        apart-next (inv .apart)
+        (ap length (turn .wrote) ∙ onward-length (size (inv .items)) (λ u. fill d h s (inv .end) u) (inv .part) (λ u. fill-length d h s (inv .end) u))
+
+    -- what the turn leaves to write
+    one-more : T (item h) → (o : Out) → find d h s (inv .end) ≡ o
+        → fill d (seq g (star h)) s at (drop k T₀)
+        ≡ onward (size (inv .items)) (λ u. then-table (as-step o) (fill d h s (inv .end) u) (λ e n. onward n (λ w. fill d (star h) s e w) (fill d h s (inv .end) u))) (inv .part)
+    one-more m o p =
+        inv .writes
+        ∙ onward-as (size (inv .items)) (λ u. fill d (star h) s (inv .end) u) _ (inv .part)
+        (λ u. star-fill d h s m (inv .end) u inside
+        ∙ ap (λ (o : Out). then-table (as-step o) (fill d h s (inv .end) u) (λ e n. onward n (λ w. fill d (star h) s e w) (fill d h s (inv .end) u))) p)
+
+    -- one more item
+    pub turning-more : T (item h) → T (lone h) → r < first-failure → Turning d g h s c at k T₀ r (number + 1) (putMid k (length t - k) t v)
+    turning-more m alone on =
+        let f = found (find d h s (inv .end)) turn on in
+        let x = item-costs d h s (inv .end) m inside (f .is) in
+        let n = size (inv .items) in
+        let b = size-beside (inv .items) (f .forest) in
+        record {
+          items = beside (inv .items) (f .forest);
+          end = f .end;
+          part = v;
+          apart = turned;
+          here = turn .read ∙ ap (behind n) (f .is) ∙ ap (Took (f .end)) (omega arith);
+          left =
+              inv .left
+              ∙ ap (with-before (inv .items))
+              (levels-star-step d h s (inv .end) inside
+              ∙ ap (λ (o : Out). again o (inv .end) (λ e. find d (star h) s e)) (f .is)
+              ∙ again-took (inv .end) (f .end) (f .forest) (λ e. find d (star h) s e) (x .1))
+              ∙ with-both (inv .items) (f .forest) (find d (star h) s (f .end));
+          writes =
+              one-more m (took (f .end) (f .forest)) (f .is)
+              ∙ onward-compose n (λ u. onward (size (f .forest)) (λ w. fill d (star h) s (f .end) w) u) (λ u. fill d h s (inv .end) u) (inv .part) (λ u. fill-length d h s (inv .end) u)
+              ∙ ap (onward n (λ u. onward (size (f .forest)) (λ w. fill d (star h) s (f .end) w) u)) (sym (turn .wrote))
+              ∙ onward-onward n (size (f .forest)) (λ w. fill d (star h) s (f .end) w) v
+              ∙ ap (λ (j : ℕ). onward j (λ w. fill d (star h) s (f .end) w) v) (omega arith);
+          counted = omega (arith, inv .counted, count-beside (inv .items) (f .forest), one-tree d h s (inv .end) (f .end) (f .forest) alone inside (f .is));
+          stands = next .stands;
+          up = omega (arith, inv .up, x .1);
+        }
+
+    whole : (o : Out) → find d (star h) s (inv .end) ≡ o → find d (list-of g h) s at ≡ followed-by (with-before (inv .items) o) (λ e f. took e (tree kind-list (count f) 0 f none))
+    unfolding run act
+    whole o p = ap (λ (o : Out). followed-by o (λ e f. took e (tree kind-list (count f) 0 f none))) (inv .left ∙ ap (with-before (inv .items)) p)
+
+    -- the last turn took nothing: the items are as it left them
+    last-part : T (item h) → (o : Out) → find d h s (inv .end) ≡ o → Stops (as-step o) → v ≡ fill d (seq g (star h)) s at (drop k T₀)
+    last-part m o p h₁ = sym (one-more m o p ∙ go o h₁ ∙ sym (turn .wrote))
+      where
+        go : (o : Out) → Stops (as-step o)
+            → onward (size (inv .items)) (λ u. then-table (as-step o) (fill d h s (inv .end) u) (λ e n. onward n (λ w. fill d (star h) s e w) (fill d h s (inv .end) u))) (inv .part)
+            ≡ onward (size (inv .items)) (λ u. fill d h s (inv .end) u) (inv .part)
+        go (took e f) z = absurd z
+        go (more w) z = refl
+        go refused z = refl
+        go deep z = refl
+
+    -- no more items: the list's own words were put
+    pub list-ends : {q : ℕ} {t′ : List ℕ} → c < first-failure → Stands 0 s c → Placed c at → T (item h) → T (paid (list-of g h)) → r ≡ refusal → Listed number c cur r q (putMid k (length t - k) t v) t′
+        → Goes d (list-of g h) s c q T₀ t′
+    unfolding run act fill-with act-table size
+    list-ends {q} {t′} going stands placed m pays last done =
+        let n = nodes-of (step c) in
+        let over-items = gone (find d h s (inv .end)) turn (ap step last ∙ step-refused) in
+        let o : find d (seq g (star h)) s at ≡ took (inv .end) (inv .items) =
+        inv .left
+        ∙ ap (with-before (inv .items)) (levels-star-step d h s (inv .end) inside ∙ ap (λ (o : Out). again o (inv .end) (λ e. find d (star h) s e)) over-items)
+        ∙ ap (took (inv .end)) (beside-none (inv .items)) in
+        let p : find d (list-of g h) s at ≡ took (inv .end) (tree kind-list (count (inv .items)) 0 (inv .items) none) =
+        ap (λ (o : Out). followed-by o (λ e f. took e (tree kind-list (count f) 0 f none))) o in
+        let w : t′ ≡ onward n (λ u. over kind-list (count (inv .items)) 0 (size (inv .items) + 1) (onward 1 (λ z. fill d (seq g (star h)) s at z) u)) T₀ =
+        apart-parent (λ z. fill d (seq g (star h)) s at z) (λ z. fill-length d (seq g (star h)) s at z) turned (last-part m refused over-items tt)
+        (subst (λ (j : ℕ). Put n kind-list j 0 (size (inv .items) + 1) (putMid k (length t - k) t v) t′) (inv .counted) (done .put last (inv .end) (size (inv .items)) (inv .here))) in
+        let y : Went n (find d (list-of g h) s at) (λ u. fill d (list-of g h) s at u) q T₀ t′ = record {
+          read = done .read last (inv .end) (size (inv .items)) (inv .here) ∙ ap (Took (inv .end)) (omega arith) ∙ ap (behind n) (sym p);
+          wrote = w ∙ onward-as n _ (λ u. fill d (list-of g h) s at u) T₀ (λ u. ap (λ (o : Out). list-table o (onward 1 (λ z. fill d (seq g (star h)) s at z) u)) (sym o));
+        } in
+        from going stands placed (λ j e. subst (λ (j : ℕ). Went j (find d (list-of g h) s at) (λ u. fill d (list-of g h) s at u) q T₀ t′) (ap nodes-of e) y)
+        (paid-stands d (list-of g h) c q pays stands (at-place going placed) (y .read))
+
+    -- an item ended the reading
+    pub list-halts : c < first-failure → Stands 0 s c → Placed c at → T (item h) → first-failure ≤ r → (r ≡ refusal → ⊥) → Goes d (list-of g h) s c r T₀ (putMid k (length t - k) t v)
+    unfolding run act fill-with act-table
+    list-halts going stands placed m fails other =
+        let n = nodes-of (step c) in
+        let y : Went n (find d (list-of g h) s at) (λ u. fill d (list-of g h) s at u) r T₀ (putMid k (length t - k) t v) =
+        ended (find d h s (inv .end)) turn fails other
+        (λ w p. stop (more w) p (turn .read ∙ ap (behind (size (inv .items))) p) (ap (with-before (inv .items)) (starred (more w) p)) tt (λ u. refl, refl))
+        (λ p. stop deep p (turn .read ∙ ap (behind (size (inv .items))) p) (ap (with-before (inv .items)) (starred deep p)) tt (λ u. refl, refl)) in
+        from going stands placed (λ j e. subst (λ (j : ℕ). Went j (find d (list-of g h) s at) (λ u. fill d (list-of g h) s at u) r T₀ (putMid k (length t - k) t v)) (ap nodes-of e) y) (next .stands)
+      where
+        starred : (o : Out) → find d h s (inv .end) ≡ o → find d (star h) s (inv .end) ≡ again o (inv .end) (λ e. find d (star h) s e)
+        starred o p = levels-star-step d h s (inv .end) inside ∙ ap (λ (o : Out). again o (inv .end) (λ e. find d (star h) s e)) p
+
+        stop : (o : Out) → find d h s (inv .end) ≡ o → step r ≡ behind (nodes-of (step c)) o → with-before (inv .items) (find d (star h) s (inv .end)) ≡ o → Stops (as-step o)
+            → ((u : List ℕ) → list-table o u ≡ u) × (followed-by o (λ e f. took e (tree kind-list (count f) 0 f none)) ≡ o)
+            → Went (nodes-of (step c)) (find d (list-of g h) s at) (λ u. fill d (list-of g h) s at u) r T₀ (putMid k (length t - k) t v)
+        stop o p read all stops through =
+            let w = inv .left ∙ all in
+            record {
+              read = read ∙ ap (behind (nodes-of (step c))) (sym (ap (λ (o : Out). followed-by o (λ e f. took e (tree kind-list (count f) 0 f none))) w ∙ through .1));
+              wrote =
+                  apart-no-parent (λ z. fill d (seq g (star h)) s at z) (λ z. fill-length d (seq g (star h)) s at z) turned (last-part m o p stops)
+                  ∙ onward-as (nodes-of (step c)) _ (λ u. fill d (list-of g h) s at u) T₀
+                  (λ u. sym (ap (λ (o : Out). list-table o (onward 1 (λ z. fill d (seq g (star h)) s at z) u)) w ∙ through .0 (onward 1 (λ z. fill d (seq g (star h)) s at z) u)));
+            }
+
+module _ {d : ℕ} {g : G} (h : G) {s : List ℕ} {c at : ℕ} (going : c < first-failure) (stands : Stands 0 s c) (placed : Placed c at) where
+  -- the first item took nothing
+  pub list-stops : {k first : ℕ} {t v : List ℕ} → Lends (length t) c k → Goes d g s at first (take (length t - k) (drop k t)) v
+      → first-failure ≤ first → Goes d (list-of g h) s c first t (putMid k (length t - k) t v)
+  unfolding run act fill-with act-table
+  list-stops {k} {first} {t} {v} lends x fails =
+      let n = nodes-of (step c) in
+      let w = x .went at 0 (starts going stands placed) in
+      let p : v ≡ fill d g s at (drop k t) = w .wrote ∙ onward-zero (λ u. fill d g s at u) _ ∙ ap (fill d g s at) (lent-out t k) in
+      let a = apart-next (apart-first lends) (ap length p ∙ fill-length d g s at (drop k t)) in
+      let y : Went n (find d (list-of g h) s at) (λ u. fill d (list-of g h) s at u) first t (putMid k (length t - k) t v) = go (find d g s at) (w .read) (apart-no-parent (λ u. fill d g s at u) (λ u. fill-length d g s at u) a p) in
+      from going stands placed (λ j e. subst (λ (j : ℕ). Went j (find d (list-of g h) s at) (λ u. fill d (list-of g h) s at u) first t (putMid k (length t - k) t v)) (ap nodes-of e) y) (x .stands)
+    where
+      go : (o : Out) → step first ≡ behind 0 o → putMid k (length t - k) t v ≡ onward (nodes-of (step c)) (λ u. onward 1 (λ w. fill d g s at w) u) t
+          → Went (nodes-of (step c)) (followed-by (followed-by o (λ e f. with-before f (find d (star h) s e))) (λ e f. took e (tree kind-list (count f) 0 f none)))
+          (λ u. list-table (followed-by o (λ e f. with-before f (find d (star h) s e)))
+          (onward 1 (λ w. then-table (as-step o) (fill d g s at w) (λ e n. onward n (λ z. fill d (star h) s e z) (fill d g s at w))) u)) first t (putMid k (length t - k) t v)
+      go (took e f) r p = absurd (subst Stops r (step-failed first fails))
+      go (more u) r p = record { read = r; wrote = p }
+      go refused r p = record { read = r; wrote = p }
+      go deep r p = record { read = r; wrote = p }
+
+-- THE INVARIANT of the code's loop, from where it began (e₀, n₀, t₀) to where it is (e, n, t)
+pub record Turns (d : ℕ) (g h : G) (s : List ℕ) (c k e₀ n₀ : ℕ) (t₀ : List ℕ) (e n : ℕ) (t : List ℕ) : Type 0 where
+  pub on : (at : ℕ) (T₀ : List ℕ) → Turning d g h s c at k T₀ e₀ n₀ t₀ → Turning d g h s c at k T₀ e n t
+  pub going : e < first-failure
+  pub stands : Stands 0 s e
+  pub up : n ≤ place-of (step e)
+  pub within : k ≤ length t
   pub same : length t ≡ length t₀
 
-with-none : (o : Out) → o ≡ with-before none o
-unfolding beside
-with-none (took e f) = refl
-with-none (more w) = refl
-with-none refused = refl
-with-none deep = refl
-
-pub turning-none : {d : ℕ} {h : G} {s : List ℕ} {e n c : ℕ} {t : List ℕ} → e ≤ length s → Turning d h s e n c t e n c t
-unfolding size count
-turning-none {d} {h} {s} {e} inside = record {
-  items = none;
-  nodes = omega arith;
-  number = omega arith;
-  left = λ k₀ l. record { turns = k₀; enough = l; reads = with-none (repeated k₀ (λ i. find d h s i) e); writes = refl };
-  forward = omega arith;
-  inside = inside;
-  few = omega arith;
-  short = omega arith;
+pub turns-none : {d : ℕ} {g h : G} {s : List ℕ} {c at k e n : ℕ} {T₀ t : List ℕ} → e < first-failure → Turning d g h s c at k T₀ e n t → Turns d g h s c k e n t e n t
+turns-none going x = record {
+  on = λ at T₀ y. y;
+  going = going;
+  stands = x .stands;
+  up = omega (arith, x .up, ap place-of (x .here));
+  within = omega (arith, x .apart .within, apart-length (x .apart));
   same = refl;
 }
 
--- the table after an item that was lent the rest
-pub lent-length : {d : ℕ} {h : G} {s : List ℕ} {e n : ℕ} (t : List ℕ) {v : List ℕ} {k : ℕ} {r : Step} → Skipped (length t) n k
-    → Does d h s e r (take (length t - k) (drop k t)) v → length (putMid k (length t - k) t v) ≡ length t
-lent-length {d} {h} {s} {e} {n} t {v} {k} skipped did =
-    ap length (lent n (λ u. fill d h s e u) t v k skipped (did .wrote)) ∙ onward-length n (λ u. fill d h s e u) t (λ u. fill-length d h s e u)
+-- the loop goes forward
+pub forward : {d : ℕ} {h : G} {s : List ℕ} {e r : ℕ} {t v : List ℕ} → T (item h) → e < first-failure → Stands 0 s e → Goes d h s e r t v → r < first-failure
+    → place-of (step e) < place-of (step r)
+forward {d} {h} {s} {e} {r} m going stands x on =
+    let here = step-took e going in
+    let at = place-of (step e) in
+    let p : step e ≡ Took at (nodes-of (step e)) = here ∙ sym (ap (λ (y : Step). Took (place-of y) (nodes-of y)) here) in
+    let w = x .went at (nodes-of (step e)) p in
+    let f = found (find d h s at) w on in
+    let y = item-costs d h s at m (stands .inside) (f .is) in
+    omega (arith, y .1, ap place-of (w .read ∙ ap (behind (nodes-of (step e))) (f .is)))
 
--- one more turn of what is left
-left-more : {d : ℕ} {h : G} {s : List ℕ} {e n e′ m : ℕ} {t v : List ℕ} (f : Forest) → e ≤ length s → e < e′ → find d h s e ≡ took e′ f → m ≡ size f
-    → v ≡ onward n (λ u. fill d h s e u) t → (k : ℕ) → length s < k + e → Left d h s e n t f e′ (m + n) v k
-unfolding repeated repeat-table
-left-more {d} {h} {s} {e} {n} {e′} {m} {t} {v} f inside up p q w zero l = absurd (omega arith)
-left-more {d} {h} {s} {e} {n} {e′} {m} {t} {v} f inside up p q w (suc k) l = record {
-  turns = k;
-  enough = omega arith;
-  reads = rw p (again-took e′ e f (λ i. repeated k (λ j. find d h s j) i) up);
-  writes = rw (p, q, ← w);
-}
-
-left-join : {d : ℕ} {h : G} {s : List ℕ} {e₀ n₀ : ℕ} {t₀ : List ℕ} {f : Forest} {e n : ℕ} {t : List ℕ} {k₀ : ℕ} {g : Forest} {e′ n′ : ℕ} {t′ : List ℕ}
-    (x : Left d h s e₀ n₀ t₀ f e n t k₀) → Left d h s e n t g e′ n′ t′ (x .turns) → Left d h s e₀ n₀ t₀ (beside f g) e′ n′ t′ k₀
-left-join {d} {h} {s} {f = f} {g = g} {e′ = e′} x y = record {
-  turns = y .turns;
-  enough = y .enough;
-  reads = x .reads ∙ ap (with-before f) (y .reads) ∙ with-both f g (repeated (y .turns) (λ i. find d h s i) e′);
-  writes = x .writes ∙ y .writes;
-}
-
--- one more turn: h is a further item
-pub turning-more : {d : ℕ} {h : G} {s : List ℕ} {e₀ n₀ c₀ : ℕ} {t₀ : List ℕ} {e n c : ℕ} {t v : List ℕ} {k e′ m : ℕ}
-    → T (item h) → T (lone h) → length s ≤ length-limit
-    → Turning d h s e₀ n₀ c₀ t₀ e n c t → Skipped (length t) n k → Does d h s e (Took e′ m) (take (length t - k) (drop k t)) v
-    → Turning d h s e₀ n₀ c₀ t₀ e′ (m + n) (c + 1) (putMid k (length t - k) t v)
-turning-more {d} {h} {s} {e₀} {n₀} {c₀} {t₀} {e} {n} {c} {t} {v} {k} {e′} {m} paid alone small inv skipped did =
-    let f = found (find d h s e) e′ m (did .read) in
-    let one = one-tree d h s e e′ (f .forest) alone (inv .inside) (f .is) in
-    let x = turned paid (record { inside = inv .inside; small = small }) did in
+pub turns-more : {d : ℕ} {g h : G} {s : List ℕ} {c k e₀ n₀ e n r : ℕ} {t₀ t v : List ℕ} → T (item h) → T (lone h)
+    → Turns d g h s c k e₀ n₀ t₀ e n t → Goes d h s e r (take (length t - k) (drop k t)) v → r < first-failure
+    → Turns d g h s c k e₀ n₀ t₀ r (n + 1) (putMid k (length t - k) t v)
+turns-more {d} {g} {h} {s} {c} {k} {e₀} {n₀} {e} {n} {r} {t₀} {t} {v} m alone inv next on =
+    let l = forward m (inv .going) (inv .stands) next on in
+    let z = lent-length t v k (inv .within) (goes-length (inv .going) next ∙ ap length (lent-out t k)) in
     record {
-      items = beside (inv .items) (f .forest);
-      nodes = omega (arith, size-beside (inv .items) (f .forest), f .sized, inv .nodes);
-      number = omega (arith, count-beside (inv .items) (f .forest), inv .number);
-      left = λ k₀ l.
-          let y = inv .left k₀ l in
-          left-join y (left-more (f .forest) (inv .inside) (x .up) (f .is) (f .sized) (lent n (λ u. fill d h s e u) t v k skipped (did .wrote)) (y .turns) (y .enough));
-      forward = omega (arith, x .up, inv .forward);
-      inside = x .inside;
-      few = omega (arith, x .few, inv .few);
-      short = omega (arith, x .up, inv .short);
-      same = lent-length t skipped did ∙ inv .same;
+      on = λ at T₀ x. turning-more (inv .on at T₀ x) next m alone on;
+      going = on;
+      stands = next .stands;
+      up = omega (arith, inv .up);
+      within = omega (arith, inv .within);
+      same = z ∙ inv .same;
     }
 
--- a list, from its first item and its turns ----------------------------------------------------------------------------------------
+-- for the function itself: its guard, its first item and its loop ---------------------------------------------------------------
 
-abbrev pub list-of : G → G → G
-list-of g h = does listed (seq g (star h))
+module _ {d : ℕ} {g h : G} {s : List ℕ} {c at k e₀ : ℕ} (T₀ : List ℕ) {v₀ : List ℕ} where
+  -- the loop begins
+  pub list-begins : T (item g) → T (lone g) → c < first-failure → Stands 0 s c → Placed c at → Lends (length T₀) c k
+      → Goes d g s at e₀ (take (length T₀ - k) (drop k T₀)) v₀ → e₀ < first-failure
+      → Turns d g h s c k e₀ 1 (putMid k (length T₀ - k) T₀ v₀) e₀ 1 (putMid k (length T₀ - k) T₀ v₀)
+  list-begins m alone going stands placed lends first on = turns-none on (turning-first h going stands placed m alone lends first on)
 
--- what the definition says of it, once the first item is found
-list-found : (d : ℕ) (g h : G) (s : List ℕ) (at e : ℕ) (f : Forest) → find d g s at ≡ took e f
-    → find d (list-of g h) s at
-    ≡ followed-by (with-before f (repeated (suc (length s)) (λ i. find d h s i) e)) (λ e′ f′. took e′ (tree kind-list (count f′) 0 f′ none))
-unfolding run act
-list-found d g h s at e f p = rw p
+module _ {d : ℕ} {g h : G} {s : List ℕ} {c at k e₀ : ℕ} {T₀ v₀ : List ℕ} where
+  module _ {e n r : ℕ} {t v : List ℕ} where
+    -- an item failed: the list is over, or the reading is
+    pub list-over : {q : ℕ} {t′ : List ℕ} → T (item g) → T (item h) → T (lone g) → T (paid (list-of g h)) → c < first-failure → Stands 0 s c → Placed c at → Lends (length T₀) c k
+        → Goes d g s at e₀ (take (length T₀ - k) (drop k T₀)) v₀ → e₀ < first-failure
+        → Turns d g h s c k e₀ 1 (putMid k (length T₀ - k) T₀ v₀) e n t → Goes d h s e r (take (length t - k) (drop k t)) v → first-failure ≤ r
+        → Listed n c e r q (putMid k (length t - k) t v) t′ → Goes d (list-of g h) s c q T₀ t′
+    list-over {q} {t′} m m₂ alone pays going stands placed lends first on inv next fails done = go (eqb r refusal) refl
+      where
+        here : Turning d g h s c at k T₀ e n t
+        here = inv .on at T₀ (turning-first h going stands placed m alone lends first on)
 
-list-filled : (d : ℕ) (g h : G) (s : List ℕ) (at e : ℕ) (f : Forest) (t : List ℕ) → find d g s at ≡ took e f
-    → fill d (list-of g h) s at t
-    ≡ list-table (with-before f (repeated (suc (length s)) (λ i. find d h s i) e))
-    (repeat-table (suc (length s)) (λ i. as-step (find d h s i)) (λ i u. fill d h s i u) e (size f + 1) (onward 1 (λ u. fill d g s at u) t))
-unfolding run fill-with act-table
-list-filled d g h s at e f t p =
-    rw p
-    (ap (list-table (with-before f (repeated (suc (length s)) (λ i. find d h s i) e)))
-    (onward-compose 1 (λ u. onward (size f) (λ v. repeat-table (suc (length s)) (λ i. as-step (find d h s i)) (λ i u. fill d h s i u) e 0 v) u)
-    (λ u. fill d g s at u) t (λ u. fill-length d g s at u)
-    ∙ onward-onward 1 (size f) (λ v. repeat-table (suc (length s)) (λ i. as-step (find d h s i)) (λ i u. fill d h s i u) e 0 v) (onward 1 (λ u. fill d g s at u) t)
-    ∙ shift (λ i. as-step (find d h s i)) (λ i u. fill d h s i u) (λ i u. fill-length d h s i u) (suc (length s)) e 0 (size f + 1) (onward 1 (λ u. fill d g s at u) t)
-    ∙ ap (λ (x : ℕ). repeat-table (suc (length s)) (λ i. as-step (find d h s i)) (λ i u. fill d h s i u) e x (onward 1 (λ u. fill d g s at u) t)) (omega arith)))
+        go : (x : Bool) → eqb r refusal ≡ x → Goes d (list-of g h) s c q T₀ t′
+        go true p = list-ends here next going stands placed m₂ pays (eqb-true r refusal p) done
+        go false p =
+            let other : r ≡ refusal → ⊥ = (λ e. let z : _≡_ {A = Bool} true false = sym (eq-eqb r refusal e) ∙ p in absurd (subst T z tt)) in
+            let same = done .ended other in
+            subst (λ (u : List ℕ). Goes d (list-of g h) s c q T₀ u) (sym (same .1))
+            (subst (λ (j : ℕ). Goes d (list-of g h) s c j T₀ (putMid k (length t - k) t v)) (sym (same .0)) (list-halts here next going stands placed m₂ fails other))
 
--- the last turn: nothing more, or the end of the reading
-repeat-refused : (k : ℕ) (item-at : ℕ → Out) (e : ℕ) → item-at e ≡ refused → repeated (suc k) item-at e ≡ took e none
-unfolding repeated
-repeat-refused k item-at e p = rw p
-
-repeat-ends : (k : ℕ) (item-at : ℕ → Out) (e : ℕ) → Ends (as-step (item-at e)) → repeated (suc k) item-at e ≡ item-at e
-unfolding repeated
-repeat-ends k item-at e told = go (item-at e) told
-  where
-    go : (o : Out) → Ends (as-step o) → again o e (λ e′. repeated k item-at e′) ≡ o
-    go (took e′ f) told = absurd (elim told [ inl a ↦ omega arith | inr b ↦ omega arith ])
-    go (more w) told = refl
-    go refused told = absurd (elim told [ inl a ↦ omega arith | inr b ↦ omega arith ])
-    go deep told = refl
-
-turn-written : (k : ℕ) (item-at : ℕ → Step) (write : ℕ → List ℕ → List ℕ) (e n : ℕ) (t : List ℕ) → Stops (item-at e)
-    → repeat-table (suc k) item-at write e n t ≡ onward n (write e) t
-unfolding repeat-table
-turn-written k item-at write e n t stopped = then-table-stops (item-at e) (onward n (write e) t) _ stopped
-
--- what the invariant says once the item at e took nothing
-pub record Last (d : ℕ) (h : G) (s : List ℕ) (e₀ n₀ : ℕ) (t₀ : List ℕ) (items : Forest) (e n : ℕ) (t : List ℕ) : Type 0 where
-  pub reads : (o : Out) → ((k : ℕ) → repeated (suc k) (λ i. find d h s i) e ≡ o)
-      → repeated (suc (length s)) (λ i. find d h s i) e₀ ≡ with-before items o
-  pub writes : Stops (as-step (find d h s e))
-      → repeat-table (suc (length s)) (λ i. as-step (find d h s i)) (λ i u. fill d h s i u) e₀ n₀ t₀ ≡ onward n (λ u. fill d h s e u) t
-
-last-turn : {d : ℕ} {h : G} {s : List ℕ} {e₀ n₀ c₀ : ℕ} {t₀ : List ℕ} {e n c : ℕ} {t : List ℕ} (inv : Turning d h s e₀ n₀ c₀ t₀ e n c t)
-    → Last d h s e₀ n₀ t₀ (inv .items) e n t
-last-turn {d} {h} {s} {e₀} {n₀} {c₀} {t₀} {e} {n} {c} {t} inv =
-    let x = inv .left (suc (length s)) (omega arith) in go (x .turns) (x .enough) (x .reads) (x .writes)
-  where
-    go : (k : ℕ) → length s < k + e
-        → repeated (suc (length s)) (λ i. find d h s i) e₀ ≡ with-before (inv .items) (repeated k (λ i. find d h s i) e)
-        → repeat-table (suc (length s)) (λ i. as-step (find d h s i)) (λ i u. fill d h s i u) e₀ n₀ t₀
-        ≡ repeat-table k (λ i. as-step (find d h s i)) (λ i u. fill d h s i u) e n t
-        → Last d h s e₀ n₀ t₀ (inv .items) e n t
-    go zero l p q = absurd (omega (arith, inv .inside))
-    go (suc k) l p q = record {
-      reads = λ o w. p ∙ ap (with-before (inv .items)) (w k);
-      writes = λ stopped. q ∙ turn-written k (λ i. as-step (find d h s i)) (λ i u. fill d h s i u) e n t stopped;
-    }
-
--- the list's own words were put after the last item
-pub list-ends : {d : ℕ} {g h : G} {s : List ℕ} {at e₀ m₀ : ℕ} {T₀ v₀ : List ℕ} {k₀ : ℕ} {e n c : ℕ} {t v : List ℕ} {k : ℕ} {t₁ : List ℕ}
-    → T (lone g) → Room s at → Skipped (length T₀) 1 k₀ → Does d g s at (Took e₀ m₀) (take (length T₀ - k₀) (drop k₀ T₀)) v₀
-    → Turning d h s e₀ (m₀ + 1) 1 (putMid k₀ (length T₀ - k₀) T₀ v₀) e n c t
-    → Skipped (length t) n k → Does d h s e Refused (take (length t - k) (drop k t)) v
-    → t₁ ≡ over kind-list c 0 n (putMid k (length t - k) t v)
-    → Does d (list-of g h) s at (Took e n) T₀ t₁
-unfolding size
-list-ends {d} {g} {h} {s} {at} {e₀} {m₀} {T₀} {v₀} {k₀} {e} {n} {c} {t} {v} {k} {t₁} alone room skipped₀ first inv skipped last put =
-    let f = found (find d g s at) e₀ m₀ (first .read) in
-    let one = one-tree d g s at e₀ (f .forest) alone (room .inside) (f .is) in
-    let gone = refusal (find d h s e) (last .read) in
-    let F = beside (f .forest) (inv .items) in
-    let sized : size F + 1 ≡ n = omega (arith, size-beside (f .forest) (inv .items), f .sized, inv .nodes) in
-    let counted : count F ≡ c = omega (arith, count-beside (f .forest) (inv .items), inv .number) in
-    let z = last-turn inv in
-    let o : with-before (f .forest) (repeated (suc (length s)) (λ i. find d h s i) e₀) ≡ took e F =
-    ap (with-before (f .forest)) (z .reads (took e none) (λ j. repeat-refused j (λ i. find d h s i) e gone))
-    ∙ ap (λ (x : Forest). took e (beside (f .forest) x)) (beside-none (inv .items)) in
-    let w : repeat-table (suc (length s)) (λ i. as-step (find d h s i)) (λ i u. fill d h s i u) e₀ (size (f .forest) + 1) (onward 1 (λ u. fill d g s at u) T₀)
-    ≡ onward n (λ u. fill d h s e u) t =
-    rw (← f .sized, ← lent 1 (λ u. fill d g s at u) T₀ v₀ k₀ skipped₀ (first .wrote)) (z .writes (rw gone tt)) in
-    record {
-      read = ap (Took e) (omega arith) ∙ ap as-step (sym (list-found d g h s at e₀ (f .forest) (f .is) ∙ ap (λ x. followed-by x (λ e′ f′. took e′ (tree kind-list (count f′) 0 f′ none))) o));
-      wrote =
-          put
-          ∙ ap (over kind-list c 0 n) (lent n (λ u. fill d h s e u) t v k skipped (last .wrote))
-          ∙ sym (list-filled d g h s at e₀ (f .forest) T₀ (f .is)
-          ∙ rw (o, w, counted, sized));
-    }
-
--- an answer that ends the reading goes through a list as it is
-ends-stops : (r : Step) → Ends r → Stops r
-ends-stops (Took e n) told = absurd (elim told [ inl a ↦ omega arith | inr b ↦ omega arith ])
-ends-stops (More w) told = tt
-ends-stops Refused told = tt
-ends-stops Deep told = tt
-
-ends-through : (f g : Forest) (o : Out) → Ends (as-step o) → with-before f (with-before g o) ≡ o
-ends-through f g (took e h) told = absurd (elim told [ inl a ↦ omega arith | inr b ↦ omega arith ])
-ends-through f g (more w) told = refl
-ends-through f g refused told = refl
-ends-through f g deep told = refl
-
-abbrev as-list : Out → Out
-as-list o = followed-by o (λ e f. took e (tree kind-list (count f) 0 f none))
-
-ends-list : (o : Out) → Ends (as-step o) → as-list o ≡ o
-ends-list (took e h) told = absurd (elim told [ inl a ↦ omega arith | inr b ↦ omega arith ])
-ends-list (more w) told = refl
-ends-list refused told = refl
-ends-list deep told = refl
-
-ends-table : (o : Out) (t : List ℕ) → Ends (as-step o) → list-table o t ≡ t
-ends-table (took e h) t told = absurd (elim told [ inl a ↦ omega arith | inr b ↦ omega arith ])
-ends-table (more w) t told = refl
-ends-table refused t told = refl
-ends-table deep t told = refl
-
-stopped-list : (o : Out) (next : ℕ → Forest → Out) → Stops (as-step o) → as-step (as-list (followed-by o next)) ≡ as-step o
-stopped-list (took e f) next z = absurd z
-stopped-list (more w) next z = refl
-stopped-list refused next z = refl
-stopped-list deep next z = refl
-
-stopped-table : (o : Out) (next : ℕ → Forest → Out) (write : List ℕ → List ℕ) (more-of : List ℕ → ℕ → ℕ → List ℕ) (t : List ℕ) → Stops (as-step o)
-    → list-table (followed-by o next) (onward 1 (λ u. then-table (as-step o) (write u) (more-of u)) t) ≡ onward 1 write t
-stopped-table (took e f) next write more-of t z = absurd z
-stopped-table (more w) next write more-of t z = refl
-stopped-table refused next write more-of t z = refl
-stopped-table deep next write more-of t z = refl
-
--- an item ended the reading
-pub list-halts : {d : ℕ} {g h : G} {s : List ℕ} {at e₀ m₀ : ℕ} {T₀ v₀ : List ℕ} {k₀ : ℕ} {e n c : ℕ} {t v : List ℕ} {k : ℕ} {r : Step}
-    → Skipped (length T₀) 1 k₀ → Does d g s at (Took e₀ m₀) (take (length T₀ - k₀) (drop k₀ T₀)) v₀
-    → Turning d h s e₀ (m₀ + 1) 1 (putMid k₀ (length T₀ - k₀) T₀ v₀) e n c t
-    → Skipped (length t) n k → Does d h s e r (take (length t - k) (drop k t)) v → Ends r
-    → Does d (list-of g h) s at r T₀ (putMid k (length t - k) t v)
-list-halts {d} {g} {h} {s} {at} {e₀} {m₀} {T₀} {v₀} {k₀} {e} {n} {c} {t} {v} {k} {r} skipped₀ first inv skipped last told =
-    let f = found (find d g s at) e₀ m₀ (first .read) in
-    let told′ : Ends (as-step (find d h s e)) = subst Ends (last .read) told in
-    let z = last-turn inv in
-    let o : with-before (f .forest) (repeated (suc (length s)) (λ i. find d h s i) e₀) ≡ find d h s e =
-    ap (with-before (f .forest)) (z .reads (find d h s e) (λ j. repeat-ends j (λ i. find d h s i) e told′))
-    ∙ ends-through (f .forest) (inv .items) (find d h s e) told′ in
-    let w : repeat-table (suc (length s)) (λ i. as-step (find d h s i)) (λ i u. fill d h s i u) e₀ (size (f .forest) + 1) (onward 1 (λ u. fill d g s at u) T₀)
-    ≡ onward n (λ u. fill d h s e u) t =
-    rw (← f .sized, ← lent 1 (λ u. fill d g s at u) T₀ v₀ k₀ skipped₀ (first .wrote)) (z .writes (ends-stops (as-step (find d h s e)) told′)) in
-    record {
-      read = last .read ∙ ap as-step (sym (list-found d g h s at e₀ (f .forest) (f .is) ∙ ap (λ x. followed-by x (λ e′ f′. took e′ (tree kind-list (count f′) 0 f′ none))) o ∙ ends-list (find d h s e) told′));
-      wrote =
-          lent n (λ u. fill d h s e u) t v k skipped (last .wrote)
-          ∙ sym (list-filled d g h s at e₀ (f .forest) T₀ (f .is) ∙ rw (o, w) (ends-table (find d h s e) (onward n (λ u. fill d h s e u) t) told′));
-    }
-
--- the first item took nothing
-pub list-stop : {d : ℕ} {g : G} (h : G) {s : List ℕ} {at : ℕ} {T₀ v : List ℕ} {k : ℕ} {r : Step}
-    → Skipped (length T₀) 1 k → Does d g s at r (take (length T₀ - k) (drop k T₀)) v → NotTook r
-    → Does d (list-of g h) s at r T₀ (putMid k (length T₀ - k) T₀ v)
-unfolding run fill-with act act-table
-list-stop {d} {g} h {s} {at} {T₀} {v} {k} {r} skipped first told =
-    let z : Stops (as-step (find d g s at)) = subst Stops (first .read) (stops r told) in
-    record {
-      read = first .read ∙ sym (stopped-list (find d g s at) _ z);
-      wrote = lent 1 (λ u. fill d g s at u) T₀ v k skipped (first .wrote) ∙ sym (stopped-table (find d g s at) _ (λ u. fill d g s at u) _ T₀ z);
-    }
+-- the measure falls
+pub list-less : {d : ℕ} {h : G} {s : List ℕ} {e r : ℕ} {t v : List ℕ} → T (item h) → e < first-failure → Stands 0 s e → Goes d h s e r t v → r < first-failure
+    → length s - place-of (step r) < length s - place-of (step e)
+list-less m going stands x on = let l = forward m going stands x on in omega (arith, x .stands .inside)

@@ -1,129 +1,249 @@
--- Structures and alternatives: the laws of `Does` that their functions cite.
-use Prim.Native.Nat.{ℕ, _+_, _-_, _≤_, _<_}
+-- A structure lends its children the rest of the table: the laws of what comes back.
+use Prim.Native.Nat.{ℕ, _+_, _-_, _*_, _/_, _%_, _≤_, _<_}
 use mathlib.Core.Path.{_≡_, refl, sym, ap, subst, _∙_}
-use mathlib.Core.List.{List, [], _∷_}
+use mathlib.Core.List.{List, _++_}
 use native.Mathlib.Omega.{arith}
-use lib.ListN.{length, take, drop, set}
-use borrow.Author.Tests.{le-leb, lt-leb}
+use lib.Dec.{T}
+use lib.ListN.{length, take, drop, length-append, length-drop, take-append-drop}
+use lib.Seq.{take-at, drop-at, length-take-le}
 use borrow.Rule.Slice.PartMut.{putMid}
 use Rattle.grammar.specs.Forest.{Forest, none, tree, size, beside}
 use Rattle.grammar.specs.Out.{Out, took, more, refused, deep, followed-by}
-use Rattle.grammar.specs.Grammar.{G, nothing, mark, alt, does, node, heads, act, headed, run}
+use Rattle.grammar.specs.Grammar.{G, does, node, heads, dropped, act, headed, run}
 use Rattle.grammar.proofs.Forests.{size-beside}
-use Rattle.table.specs.declared.Step.{Step}
-use Rattle.table.specs.declared.Step.the-variants.{Took, More, Refused, Deep}
-use Rattle.table.specs.Table.{as-step, add-nodes, over, rehead}
-use Rattle.table.specs.Fill.{find, fill, fill-with, act-table}
-use Rattle.table.specs.Promise.{Does, Goes, Skipped, InBounds, Marked, MarkedOn, Finished, Headed}
-use Rattle.table.proofs.Answers.{NotTook, NotRefused, stops, go-on-stops, add-nodes-stops, then-table-stops, else-stays, else-table-stays, refusal}
-use Rattle.table.proofs.Sequence.{lent}
+use Rattle.table.specs.Cursor.{Step, Took, More, Refused, Deep, step, first-failure, behind, place-of, nodes-of, Stops, find}
+use Rattle.table.specs.Table.{as-step, skip-to, over, onward, rehead, then-table, parent-table}
+use Rattle.table.specs.Fill.{fill, fill-with, act-table}
+use Rattle.table.specs.Promise.{Stands, Went, Goes, Skims, Placed, Put, Lends, Moved, Finished, Headed}
+use Rattle.table.proofs.Cursors.{at-place, took-is, step-took, step-failed, place-is}
+use Rattle.table.proofs.Length.{fill-length, onward-length}
+use Rattle.table.proofs.Onward.{onward-zero, onward-same, onward-as, onward-compose, onward-parent, lent-out, lent-back}
+use Rattle.table.proofs.Going.{Keeping, Still, Lays, skim, from, went-as}
+use Rattle.table.proofs.Bounds.{paid, paid-stands, starts}
 
--- what `finish` and `head` were promised, of an answer that took something
-pub bounds-took : {at : ℕ} {r : Step} {next nodes : ℕ} → InBounds at r → r ≡ Took next nodes → InBounds at (Took next nodes)
-bounds-took {at} b p = subst (InBounds at) p b
+-- the lengths
+pub goes-length : {d : ℕ} {g : G} {s : List ℕ} {c q : ℕ} {t t′ : List ℕ} → c < first-failure → Goes d g s c q t t′ → length t′ ≡ length t
+goes-length {d} {g} {s} {c} {t = t} h x =
+    let at = c % 4294967296 in
+    ap length (x .went at (c / 4294967296) (step-took c h) .wrote)
+    ∙ onward-length (c / 4294967296) (λ u. fill d g s at u) t (λ u. fill-length d g s at u)
 
--- a mark
-pub mark-done : {d kind a : ℕ} {s : List ℕ} {at : ℕ} {r : Step} {t t′ : List ℕ} → Marked kind a at r t t′ → Does d (mark kind a) s at r t t′
-unfolding run fill-with size
-mark-done w = record { read = w .read; wrote = w .wrote }
+-- T₀ with another part from k on: where n nodes and one more stand before it
+pub record Apart (n k : ℕ) (T₀ U t : List ℕ) : Type 0 where
+  pub is : t ≡ take k T₀ ++ U
+  pub long : length U ≡ length (drop k T₀)
+  pub cut : k ≡ skip-to (length T₀) (1 + n)
+  pub within : k ≤ length T₀
 
--- a mark behind what was read before
-pub mark-goes : {d kind a : ℕ} {s : List ℕ} {r q : Step} {t t′ : List ℕ} → MarkedOn kind a r q t t′ → Goes d (mark kind a) s r q t t′
-unfolding run fill-with size
-mark-goes w = record { read = w .read; wrote = w .wrote }
+pub apart-length : {n k : ℕ} {T₀ U t : List ℕ} → Apart n k T₀ U t → length t ≡ length T₀
+apart-length {n} {k} {T₀} {U} {t} x =
+    ap length (x .is) ∙ length-append (take k T₀) U ∙ omega (arith, length-take-le k T₀ (x .within), x .long, x .within, length-drop k T₀)
 
-pub mark-stop : {kind a : ℕ} {r : Step} {t : List ℕ} → NotTook r → MarkedOn kind a r r t t
-mark-stop {r = r} {t = t} told = record { read = go-on-stops r _ (stops r told); wrote = sym (then-table-stops r t _ (stops r told)) }
+pub apart-drop : {n k : ℕ} {T₀ U t : List ℕ} → Apart n k T₀ U t → drop k t ≡ U
+apart-drop {n} {k} {T₀} {U} {t} x = ap (drop k) (x .is) ∙ drop-at (take k T₀) U k (length-take-le k T₀ (x .within))
 
-pub mark-put : {kind a : ℕ} {r : Step} {e n k : ℕ} {t v : List ℕ} → r ≡ Took e n → Skipped (length t) n k
-    → v ≡ over kind a 0 1 (take (length t - k) (drop k t)) → MarkedOn kind a r (Took e (1 + n)) t (putMid k (length t - k) t v)
-mark-put {kind} {a} {n = n} {k = k} {t = t} {v = v} p skipped w = record { read = rw p; wrote = rw p (lent n (λ u. over kind a 0 1 u) t v k skipped w) }
+pub apart-take : {n k : ℕ} {T₀ U t : List ℕ} → Apart n k T₀ U t → take k t ≡ take k T₀
+apart-take {n} {k} {T₀} {U} {t} x = ap (take k) (x .is) ∙ take-at (take k T₀) U k (length-take-le k T₀ (x .within))
 
--- nothing
-pub nothing-done : {d : ℕ} {s : List ℕ} {at : ℕ} {t : List ℕ} → Does d nothing s at (Took at 0) t t
-unfolding run fill-with size
-nothing-done = record { read = refl; wrote = refl }
+-- before anything is read
+pub apart-first : {c k : ℕ} {t : List ℕ} → Lends (length t) c k → Apart (nodes-of (step c)) k t (drop k t) t
+apart-first {c} {k} {t} x = record { is = sym (take-append-drop k t); long = refl; cut = x .is; within = x .within }
 
--- node -----------------------------------------------------------------------------------------------------------------
-
-pub step-node : (o : Out) (kind at : ℕ) → as-step (followed-by o (λ e f. took e (act (node kind) at e f))) ≡ add-nodes 1 (as-step o)
-unfolding size act
-step-node (took e f) kind at = ap (Took e) (omega arith)
-step-node (more w) kind at = refl
-step-node refused kind at = refl
-step-node deep kind at = refl
-
--- `finish` had nothing to do
-pub finish-stop : {kind at : ℕ} {r : Step} {t : List ℕ} → NotTook r → Finished kind at r r t t
-finish-stop {kind} {at} {r} {t} told = record {
-  read = sym (add-nodes-stops 1 r (stops r told));
-  wrote = sym (then-table-stops r t _ (stops r told));
+-- and after something was
+pub apart-next : {n k : ℕ} {T₀ U t v : List ℕ} → Apart n k T₀ U t → length v ≡ length U → Apart n k T₀ v (putMid k (length t - k) t v)
+apart-next {n} {k} {T₀} {U} {t} {v} x l = record {
+  is = lent-back t v k ∙ ap (λ (y : List ℕ). y ++ v) (apart-take x);
+  long = l ∙ x .long;
+  cut = x .cut;
+  within = x .within;
 }
 
--- the children were lent the rest of the table, and then the own words were put
-pub node-done : {d : ℕ} {g : G} {kind : ℕ} {s : List ℕ} {at : ℕ} {r r′ : Step} {t t′ v : List ℕ} {k : ℕ}
-    → Skipped (length t) 1 k → Does d g s at r (take (length t - k) (drop k t)) v → Finished kind at r r′ (putMid k (length t - k) t v) t′
-    → Does d (does (node kind) g) s at r′ t t′
-unfolding run fill-with act-table
-node-done {d} {g} {kind} {s} {at} {r} {r′} {t} {t′} {v} {k} skipped did w = record {
-  read = w .read ∙ ap (add-nodes 1) (did .read) ∙ sym (step-node (find d g s at) kind at);
-  wrote = w .wrote ∙ rw (did .read, lent 1 (λ u. fill d g s at u) t v k skipped (did .wrote));
-}
+-- what it comes to, if the part is as w leaves it
+pub apart-onward : {n k : ℕ} {T₀ U t : List ℕ} (w : List ℕ → List ℕ) → Apart n k T₀ U t → U ≡ w (drop k T₀) → t ≡ onward (1 + n) w T₀
+unfolding onward
+apart-onward {n} {k} {T₀} {U} w x p = x .is ∙ ap (λ (y : List ℕ). take k T₀ ++ y) p ∙ ap (λ (j : ℕ). take j T₀ ++ w (drop j T₀)) (x .cut)
 
--- heads ----------------------------------------------------------------------------------------------------------------
+-- a parent's words over what was read there
+pub apart-parent : {n k : ℕ} {T₀ U t t′ : List ℕ} (w : List ℕ → List ℕ) {kind a b size : ℕ} → Keeping w → Apart n k T₀ U t → U ≡ w (drop k T₀) → Put n kind a b size t t′
+    → t′ ≡ onward n (λ u. over kind a b size (onward 1 w u)) T₀
+apart-parent {n} {T₀ = T₀} w {kind} {a} {b} {size} keeps x p put =
+    put .is ∙ ap (onward n (λ u. over kind a b size u)) (apart-onward w x p) ∙ onward-parent n (λ u. over kind a b size u) w T₀ keeps
+
+-- or none
+pub apart-no-parent : {n k : ℕ} {T₀ U t : List ℕ} (w : List ℕ → List ℕ) → Keeping w → Apart n k T₀ U t → U ≡ w (drop k T₀)
+    → t ≡ onward n (λ u. onward 1 w u) T₀
+apart-no-parent {n} {T₀ = T₀} w keeps x p = apart-onward w x p ∙ onward-same n (onward (1 + n) w T₀) ∙ onward-parent n (λ u. u) w T₀ keeps
+
+-- THE LAW of a structure
+module _ {d : ℕ} {g : G} {kind : ℕ} {s : List ℕ} {c at : ℕ} (going : c < first-failure) (stands : Stands 0 s c) (placed : Placed c at) where
+  pub node-done : {k inner q : ℕ} {t v t′ : List ℕ} → T (paid (does (node kind) g)) → Lends (length t) c k
+      → Goes d g s at inner (take (length t - k) (drop k t)) v → Finished kind c inner q (putMid k (length t - k) t v) t′
+      → Goes d (does (node kind) g) s c q t t′
+  unfolding run act fill-with act-table size
+  node-done {k} {inner} {q} {t} {v} {t′} m lends children done =
+      let here = at-place going placed in
+      let w = children .went at 0 (starts going stands placed) in
+      let p : v ≡ fill d g s at (drop k t) = w .wrote ∙ onward-zero (λ u. fill d g s at u) _ ∙ ap (fill d g s at) (lent-out t k) in
+      let x = apart-next (apart-first lends) (ap length p ∙ fill-length d g s at (drop k t)) in
+      let y : Went (nodes-of (step c)) (find d (does (node kind) g) s at) (λ u. fill d (does (node kind) g) s at u) q t t′ = go (find d g s at) (w .read) p x in
+      from going stands placed (λ n e. subst (λ (j : ℕ). Went j (find d (does (node kind) g) s at) (λ u. fill d (does (node kind) g) s at u) q t t′) (ap nodes-of e) y)
+      (paid-stands d (does (node kind) g) c q m stands here (y .read))
+    where
+      stop : (o : Out) → step inner ≡ behind 0 o → ((n : ℕ) → behind 0 o ≡ behind n o) → Stops (step inner) → v ≡ fill d g s at (drop k t) → Apart (nodes-of (step c)) k t v (putMid k (length t - k) t v)
+          → Went (nodes-of (step c)) o (λ u. onward 1 (λ w. fill d g s at w) u) q t t′
+      stop o r same h p x =
+          let e = done .stopped h in
+          record {
+            read = ap step (e .0) ∙ r ∙ same (nodes-of (step c));
+            wrote = e .1 ∙ apart-no-parent (λ u. fill d g s at u) (λ u. fill-length d g s at u) x p;
+          }
+
+      go : (o : Out) → step inner ≡ behind 0 o → v ≡ fill d g s at (drop k t) → Apart (nodes-of (step c)) k t v (putMid k (length t - k) t v)
+          → Went (nodes-of (step c)) (followed-by o (λ e f. took e (tree kind at e f none)))
+          (λ u. parent-table kind at (as-step o) (onward 1 (λ w. fill d g s at w) u)) q t t′
+      go (took e f) r p x =
+          let a : place-of (step c) ≡ at = ap place-of (at-place going placed) in
+          let b : step inner ≡ Took e (size f) = r ∙ ap (Took e) (omega arith) in
+          record {
+            read = done .read e (size f) b ∙ ap (Took e) (omega arith);
+            wrote = apart-parent (λ u. fill d g s at u) (λ u. fill-length d g s at u) x p
+                (subst (λ (j : ℕ). Put (nodes-of (step c)) kind j e (size f + 1) (putMid k (length t - k) t v) t′) a (done .put e (size f) b));
+          }
+      go (more u) r p x = stop (more u) r (λ n. refl) (subst Stops (sym r) tt) p x
+      go refused r p x = stop refused r (λ n. refl) (subst Stops (sym r) tt) p x
+      go deep r p x = stop deep r (λ n. refl) (subst Stops (sym r) tt) p x
+
+-- .. over bytes that make no node: no table is lent
+module _ {g : G} {kind : ℕ} {s : List ℕ} {c at : ℕ} (going : c < first-failure) (stands : Stands 0 s c) (placed : Placed c at) where
+  pub bare-done : {inner q : ℕ} {t t′ : List ℕ} → T (paid (does (node kind) g)) → Skims g s at inner → Finished kind c inner q t t′
+      → Goes 0 (does (node kind) g) s c q t t′
+  unfolding run act fill-with act-table size
+  bare-done {inner} {q} {t} {t′} m children done =
+      let y : Went (nodes-of (step c)) (find 0 (does (node kind) g) s at) (λ u. fill 0 (does (node kind) g) s at u) q t t′ =
+      go (find 0 g s at) (children .on t .went at 0 (starts going stands placed) .read) in
+      from going stands placed (λ n e. subst (λ (j : ℕ). Went j (find 0 (does (node kind) g) s at) (λ u. fill 0 (does (node kind) g) s at u) q t t′) (ap nodes-of e) y)
+      (paid-stands 0 (does (node kind) g) c q m stands (at-place going placed) (y .read))
+    where
+      still : (u : List ℕ) → fill 0 g s at u ≡ u
+      still u = sym (children .on u .went at 0 (starts going stands placed) .wrote ∙ onward-zero (λ w. fill 0 g s at w) u)
+
+      bare : (u : List ℕ) → onward 1 (λ w. fill 0 g s at w) u ≡ u
+      bare u = onward-as 1 (λ w. fill 0 g s at w) (λ w. w) u still ∙ sym (onward-same 1 u)
+
+      stop : (o : Out) → step inner ≡ behind 0 o → ((n : ℕ) → behind 0 o ≡ behind n o) → Stops (step inner)
+          → Went (nodes-of (step c)) o (λ u. onward 1 (λ w. fill 0 g s at w) u) q t t′
+      stop o r same h =
+          let e = done .stopped h in
+          let n = nodes-of (step c) in
+          record {
+            read = ap step (e .0) ∙ r ∙ same n;
+            wrote = e .1 ∙ onward-same n t ∙ onward-as n (λ u. u) (λ u. onward 1 (λ w. fill 0 g s at w) u) t (λ u. sym (bare u));
+          }
+
+      go : (o : Out) → step inner ≡ behind 0 o
+          → Went (nodes-of (step c)) (followed-by o (λ e f. took e (tree kind at e f none)))
+          (λ u. parent-table kind at (as-step o) (onward 1 (λ w. fill 0 g s at w) u)) q t t′
+      go (took e f) r =
+          let n = nodes-of (step c) in
+          let a : place-of (step c) ≡ at = ap place-of (at-place going placed) in
+          let b : step inner ≡ Took e (size f) = r ∙ ap (Took e) (omega arith) in
+          record {
+            read = done .read e (size f) b ∙ ap (Took e) (omega arith);
+            wrote =
+                done .put e (size f) b .is
+                ∙ onward-as n (λ u. over kind (place-of (step c)) e (size f + 1) u) (λ u. over kind at e (size f + 1) (onward 1 (λ w. fill 0 g s at w) u)) t
+                (λ u. ap (λ (j : ℕ). over kind j e (size f + 1) u) a ∙ ap (over kind at e (size f + 1)) (sym (bare u)));
+          }
+      go (more u) r = stop (more u) r (λ n. refl) (subst Stops (sym r) tt)
+      go refused r = stop refused r (λ n. refl) (subst Stops (sym r) tt)
+      go deep r = stop deep r (λ n. refl) (subst Stops (sym r) tt)
+
+-- heads ----------------------------------------------------------------------------------------------------------------------
 
 pub size-headed : (at e : ℕ) (f : Forest) → size (headed at e f) ≡ size f
 unfolding headed size
 size-headed at e none = refl
 size-headed at e (tree k a b f g) = omega (arith, size-beside f g)
 
-step-heads : (o : Out) (at : ℕ) → as-step (followed-by o (λ e f. took e (act heads at e f))) ≡ as-step o
-unfolding act
-step-heads (took e f) at = ap (Took e) (size-headed at e f)
-step-heads (more w) at = refl
-step-heads refused at = refl
-step-heads deep at = refl
-
--- the three stores of `head`
-pub rehead-sets : (start end n : ℕ) (t : List ℕ) → 4 ≤ length t → set (set (set t 1 start) 2 end) 3 n ≡ rehead start end n t
-unfolding rehead
-rehead-sets start end n [] l = absurd (omega arith)
-rehead-sets start end n (a ∷ []) l = absurd (omega arith)
-rehead-sets start end n (a ∷ b ∷ []) l = absurd (omega arith)
-rehead-sets start end n (a ∷ b ∷ c ∷ []) l = absurd (omega arith)
-rehead-sets start end n (a ∷ b ∷ c ∷ d ∷ t) l = rw (le-leb 4 (length (a ∷ b ∷ c ∷ d ∷ t)) l)
-
-pub rehead-none : (start end n : ℕ) (t : List ℕ) → length t < 4 → t ≡ rehead start end n t
-unfolding rehead
-rehead-none start end n t l = rw (lt-leb 4 (length t) l)
-
-pub head-stop : {at : ℕ} {r : Step} {t : List ℕ} → NotTook r → Headed at r r t t
-head-stop {at} {r} {t} told = record { read = refl; wrote = sym (then-table-stops r t _ (stops r told)) }
-
-pub heads-done : {d : ℕ} {g : G} {s : List ℕ} {at : ℕ} {r r′ : Step} {t t₁ t₂ : List ℕ} → Does d g s at r t t₁ → Headed at r r′ t₁ t₂
-    → Does d (does heads g) s at r′ t t₂
-unfolding run fill-with act-table
-heads-done {d} {g} {s} {at} {r} {r′} {t} {t₁} {t₂} did w = record {
-  read = w .read ∙ did .read ∙ sym (step-heads (find d g s at) at);
-  wrote = w .wrote ∙ rw (did .read, did .wrote);
+-- the first node of what was read takes in the others
+pub heads-done : {d : ℕ} {g : G} {s : List ℕ} {c r q : ℕ} {t t₁ t₂ : List ℕ} → Goes d g s c r t t₁ → Headed c r q t₁ t₂ → Goes d (does heads g) s c q t t₂
+unfolding run act fill-with act-table
+heads-done {d} {g} {s} {c} {r} {q} {t} {t₁} {t₂} x w = record {
+  stopped = λ h.
+      let e = x .stopped h in
+      (w .read ∙ e .0, w .stopped (subst (λ (k : ℕ). Stops (step k)) (sym (e .0)) h) ∙ e .1);
+  went = λ at n p. go at n p (find d g s at) (x .went at n p);
+  stands = subst (λ (k : ℕ). Stands 0 s k) (sym (w .read)) (x .stands);
 }
+  where
+    stop : (at n : ℕ) (o : Out) → Went n o (λ u. fill d g s at u) r t t₁ → Stops (step r) → Went n o (λ u. fill d g s at u) q t t₂
+    stop at n o y h = went-as (w .read, w .stopped h) y
 
--- alt ------------------------------------------------------------------------------------------------------------------
+    go : (at n : ℕ) → step c ≡ Took at n → (o : Out) → Went n o (λ u. fill d g s at u) r t t₁
+        → Went n (followed-by o (λ e f. took e (headed at e f))) (λ u. then-table (as-step o) (fill d g s at u) (λ e m. rehead at e m (fill d g s at u))) q t t₂
+    go at n p (took e f) y =
+        let a : place-of (step c) ≡ at = ap place-of p in
+        let b : nodes-of (step c) ≡ n = ap nodes-of p in
+        let z : t₂ ≡ onward (nodes-of (step c)) (λ u. rehead (place-of (step c)) e (size f) u) t₁ = w .wrote e (size f) (y .read ∙ ap (λ (j : ℕ). Took e (size f + j)) (sym b)) in
+        record {
+          read = ap step (w .read) ∙ y .read ∙ ap (λ (j : ℕ). Took e (j + n)) (sym (size-headed at e f));
+          wrote =
+              z
+              ∙ ap (λ (j : ℕ). onward (nodes-of (step c)) (λ u. rehead j e (size f) u) t₁) a
+              ∙ ap (λ (j : ℕ). onward j (λ u. rehead at e (size f) u) t₁) b
+              ∙ ap (onward n (λ u. rehead at e (size f) u)) (y .wrote)
+              ∙ sym (onward-compose n (λ u. rehead at e (size f) u) (λ u. fill d g s at u) t (λ u. fill-length d g s at u));
+        }
+    go at n p (more u) y = stop at n (more u) y (subst Stops (sym (y .read)) tt)
+    go at n p refused y = stop at n refused y (subst Stops (sym (y .read)) tt)
+    go at n p deep y = stop at n deep y (subst Stops (sym (y .read)) tt)
 
--- the first did not fail
-pub alt-stop : {d : ℕ} {g : G} (h : G) {s : List ℕ} {at : ℕ} {r : Step} {t t′ : List ℕ} → Does d g s at r t t′ → NotRefused r → Does d (alt g h) s at r t t′
-unfolding run fill-with
-alt-stop {d} {g} h {s} {at} {r} {t} did told =
-    let z : NotRefused (as-step (find d g s at)) = subst NotRefused (did .read) told in
-    record {
-      read = did .read ∙ ap as-step (sym (else-stays (find d g s at) _ z));
-      wrote = did .wrote ∙ sym (else-table-stays (as-step (find d g s at)) (fill d g s at t) _ z);
-    }
+-- dropped --------------------------------------------------------------------------------------------------------------------
 
--- the first failed
-pub alt-goes : {d : ℕ} {g h : G} {s : List ℕ} {at : ℕ} {r : Step} {t t₁ t₂ : List ℕ} → Does d g s at Refused t t₁ → Does d h s at r t₁ t₂ → Does d (alt g h) s at r t t₂
-unfolding run fill-with
-alt-goes {d} {g} {h} {s} {at} did other = record {
-  read = rw (refusal (find d g s at) (did .read)) (other .read);
-  wrote = rw (refusal (find d g s at) (did .read), ← did .wrote) (other .wrote);
-}
+-- only where it ended counts: it was read from the same place with any table, and no node is kept
+module _ {g : G} {s : List ℕ} {c at : ℕ} (going : c < first-failure) (stands : Stands 0 s c) (placed : Placed c at) where
+  pub dropped-stop : {r : ℕ} {u u′ : List ℕ} → Goes 0 g s at r u u′ → first-failure ≤ r → Skims (does dropped g) s c r
+  unfolding run act fill-with act-table
+  dropped-stop {r} x fails = skim (λ t. from going stands placed (λ n e. go n t (find 0 g s at) (x .went at 0 (starts going stands placed) .read)) (x .stands))
+    where
+      go : (n : ℕ) (t : List ℕ) (o : Out) → step r ≡ behind 0 o → Went n (followed-by o (λ e f. took e none)) (λ u. u) r t t
+      go n t (took e f) p = absurd (subst Stops p (step-failed r fails))
+      go n t (more w) p = record { read = p; wrote = onward-same n t }
+      go n t refused p = record { read = p; wrote = onward-same n t }
+      go n t deep p = record { read = p; wrote = onward-same n t }
+
+  pub dropped-done : {r e q : ℕ} {u u′ : List ℕ} → T (paid (does dropped g)) → Goes 0 g s at r u u′ → r < first-failure → Placed r e → Moved c e q → Skims (does dropped g) s c q
+  unfolding run act fill-with act-table size
+  dropped-done {r} {e} {q} m x on ended moved =
+      let w = x .went at 0 (starts going stands placed) in
+      let y : step q ≡ behind (nodes-of (step c)) (find 0 (does dropped g) s at) = moved .is ∙ go (find 0 g s at) (w .read) in
+      skim (λ t. from going stands placed (λ n p. record {
+        read = y ∙ ap (λ (j : ℕ). behind j (find 0 (does dropped g) s at)) (ap nodes-of p);
+        wrote = onward-same n t;
+      }) (paid-stands 0 (does dropped g) c q m stands (at-place going placed) y))
+    where
+      go : (o : Out) → step r ≡ behind 0 o → Took e (nodes-of (step c)) ≡ behind (nodes-of (step c)) (followed-by o (λ e f. took e none))
+      go (took e′ f) p = let z : e ≡ e′ = place-is on ended ∙ ap place-of p in ap (λ (j : ℕ). Took j (nodes-of (step c))) z ∙ ap (Took e′) (omega arith)
+      go (more w) p = absurd (subst Stops (sym p ∙ step-took r on) tt)
+      go refused p = absurd (subst Stops (sym p ∙ step-took r on) tt)
+      go deep p = absurd (subst Stops (sym p ∙ step-took r on) tt)
+
+-- a node over bytes that make none, from what they are -----------------------------------------------------------------------
+
+onward-still : (write : List ℕ → List ℕ) → ((u : List ℕ) → write u ≡ u) → (u : List ℕ) → onward 1 write u ≡ u
+onward-still write still u = onward-as 1 write (λ w. w) u still ∙ sym (onward-same 1 u)
+
+module _ {d : ℕ} {g : G} (kind : ℕ) {s : List ℕ} {at : ℕ} where
+  pub node-lays : {e : ℕ} → Still d g s at (took e none) → Lays d (does (node kind) g) s at e kind at e
+  unfolding run act fill-with act-table size
+  node-lays {e} x = record {
+    read = rw (x .read);
+    wrote = λ t. rw (x .read) (ap (over kind at e 1) (onward-still (λ w. fill d g s at w) (x .wrote) t));
+  }
+
+  pub node-still : (o : Out) → Stops (as-step o) → Still d g s at o → Still d (does (node kind) g) s at o
+  unfolding run act fill-with act-table
+  node-still (took e f) h x = absurd h
+  node-still (more w) h x = record { read = rw (x .read); wrote = λ t. rw (x .read) (onward-still (λ w. fill d g s at w) (x .wrote) t) }
+  node-still refused h x = record { read = rw (x .read); wrote = λ t. rw (x .read) (onward-still (λ w. fill d g s at w) (x .wrote) t) }
+  node-still deep h x = record { read = rw (x .read); wrote = λ t. rw (x .read) (onward-still (λ w. fill d g s at w) (x .wrote) t) }

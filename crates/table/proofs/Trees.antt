@@ -14,7 +14,7 @@ use Rattle.grammar.specs.BodyStructure.{grammar}
 use Rattle.grammar.proofs.Tests.{branch-ind, T-left, T-right, T-both}
 use Rattle.grammar.proofs.On.{On, on-took, on-more, on-refused, at-took}
 use Rattle.grammar.proofs.Closed.{Test, every, everywhere, Closed, grammar-keeps}
-use Rattle.table.specs.Fill.{find}
+use Rattle.table.specs.Cursor.{find}
 
 pub count-beside : (f g : Forest) → count (beside f g) ≡ count f + count g
 unfolding count beside

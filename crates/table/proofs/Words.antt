@@ -18,7 +18,8 @@ use Rattle.grammar.specs.Rules.{levels}
 use Rattle.grammar.proofs.Tests.{branch-ind}
 use Rattle.grammar.proofs.On.{On, on-took, on-more, on-refused, on-deep, on-map, on-then, at-took}
 use Rattle.table.specs.Table.{as-step, then-table, else-table, parent-table, list-table, head-table, lay, over, rehead, onward, skip-to}
-use Rattle.table.specs.Fill.{Filler, act-table, repeat-table, fill-with, fill-levels, find, fill}
+use Rattle.table.specs.Fill.{Filler, act-table, repeat-table, fill-with, fill-levels, fill}
+use Rattle.table.specs.Cursor.{find}
 use Rattle.grammar.proofs.Forests.{size-beside, words-beside, length-words}
 use Rattle.table.proofs.Structure.{size-headed}
 use Rattle.table.proofs.Length.{Keeps, fill-length, fill-with-length, fill-levels-length}

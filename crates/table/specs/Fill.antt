@@ -8,8 +8,7 @@ use Rattle.grammar.specs.Scan.{leaf-at, literal-at}
 use Rattle.grammar.specs.Grammar.{Act, node, listed, heads, range, uid-range, dropped, act, Inner, G, leaf, literal, nothing, mark, seq, alt, star, does, entry, ref, Reader, run}
 use Rattle.grammar.specs.BodyStructure.{grammar}
 use Rattle.grammar.specs.Rules.{levels}
-use Rattle.table.specs.declared.Step.{Step}
-use Rattle.table.specs.declared.Step.the-variants.{Took, More, Refused, Deep}
+use Rattle.table.specs.Cursor.{Step, Took, More, Refused, Deep}
 use Rattle.table.specs.Table.{as-step, then-table, else-table, parent-table, list-table, head-table, lay, over, onward}
 
 -- a reading's bytes and place, and a table
@@ -54,9 +53,6 @@ unfoldable pub fill-levels : ℕ → Inner → Filler
 fill-levels zero n s at t = t
 fill-levels (suc left) n s at t = fill-with (levels left) (fill-levels left) (grammar n) s at t
 
--- the two readings of a grammar with so many levels left below it: what is found, and what the table then holds
-abbrev pub find : ℕ → G → Reader
-find depth g s at = run (levels depth) g s at
-
+-- what the table then holds, with so many levels left below g
 abbrev pub fill : ℕ → G → Filler
 fill depth g s at t = fill-with (levels depth) (fill-levels depth) g s at t

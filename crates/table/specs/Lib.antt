@@ -1,3 +1,4 @@
+pub mod Cursor
 pub mod Table
 pub mod Fill
 pub mod Promise

@@ -1,4 +1,4 @@
--- The code's answers, and what the table's functions do to a table.
+-- What the table's functions do to a table.
 use Prim.Native.Nat.{ℕ, _+_, _*_, _/_}
 use mathlib.Core.List.{List, _∷_, _++_}
 use lib.ListN.{length, take, drop, getD}
@@ -6,8 +6,7 @@ use lib.Dec.{leb}
 use Rattle.grammar.specs.Forest.{Forest, none, tree, size, count}
 use Rattle.grammar.specs.Out.{Out, took, more, refused, deep, branch}
 use Rattle.grammar.specs.Kinds.{kind-list}
-use Rattle.table.specs.declared.Step.{Step}
-use Rattle.table.specs.declared.Step.the-variants.{Took, More, Refused, Deep}
+use Rattle.table.specs.Cursor.{Step, Took, More, Refused, Deep}
 
 -- answers ----------------------------------------------------------------------------------------------------------
 
@@ -17,31 +16,6 @@ as-step (took end f) = Took end (size f)
 as-step (more wanted) = More wanted
 as-step refused = Refused
 as-step deep = Deep
-
-abbrev pub nodes-of : Step → ℕ
-nodes-of (Took next nodes) = nodes
-nodes-of (More wanted) = 0
-nodes-of Refused = 0
-nodes-of Deep = 0
-
-abbrev pub next-of : Step → ℕ
-next-of (Took next nodes) = next
-next-of (More wanted) = 0
-next-of Refused = 0
-next-of Deep = 0
-
--- go on from what r took; whatever else it is ends the reading
-abbrev pub go-on : Step → (ℕ → ℕ → Step) → Step
-go-on (Took next nodes) k = k next nodes
-go-on (More wanted) k = More wanted
-go-on Refused k = Refused
-go-on Deep k = Deep
-
-abbrev pub add-nodes : ℕ → Step → Step
-add-nodes n (Took next nodes) = Took next (nodes + n)
-add-nodes n (More wanted) = More wanted
-add-nodes n Refused = Refused
-add-nodes n Deep = Deep
 
 -- the table --------------------------------------------------------------------------------------------------------
 

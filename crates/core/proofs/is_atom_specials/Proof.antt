@@ -16,9 +16,6 @@ returns-3 c = simp (ne-eqb _ _ (c .before .before .if1 .left), ne-eqb _ _ (c .be
 returns-4 : tie.Need-returns-4
 returns-4 c = simp (ne-eqb _ _ (c .before .before .before .if1 .left), ne-eqb _ _ (c .before .before .if2 .left), ne-eqb _ _ (c .before .if3 .left), eq-eqb _ _ (c .if4 .taken))
 
-is-list-wildcards-requires : tie.Need-is-list-wildcards-requires
-is-list-wildcards-requires c κs = search needs
-
 returns-5 : tie.Need-returns-5
 returns-5 c =
     simp (
@@ -28,9 +25,6 @@ returns-5 c =
       ne-eqb _ _ (c .before .before .if4 .left),
       sym (c .before .is-list-wildcards .ensures) ∙ c .if5 .taken,
     )
-
-is-quoted-specials-requires : tie.Need-is-quoted-specials-requires
-is-quoted-specials-requires c κs = search needs
 
 returns-6 : tie.Need-returns-6
 returns-6 c =
@@ -51,7 +45,7 @@ is-atom-specials-spec =
     returns-2
     returns-3
     returns-4
-    is-list-wildcards-requires
+    (λ c κs. search needs)
     returns-5
-    is-quoted-specials-requires
+    (λ c κs. search needs)
     returns-6)

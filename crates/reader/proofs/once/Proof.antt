@@ -1,59 +1,92 @@
-use Prim.Native.Nat.{_≤_}
-use mathlib.Core.Logic.{⊎-elim}
-use native.Mathlib.Omega.{arith}
 use borrow.Author.Needs.{needs}
+use native.Mathlib.Omega.{arith}
+use Rattle.grammar.specs.Rules.{rule}
+use Rattle.grammar.specs.Reading.{deepest-level, last-rule}
+use Rattle.table.proofs.Depth.{plain, at-depth}
+use Rattle.table.proofs.Whole.{stands-first, stands-one}
+use Rattle.reader.proofs.Arms.{apart}
 use Rattle.reader.proofs.once.Statement.{statement}
 use Rattle.reader.proofs.once.Tie as tie
 
-string-rules-requires : tie.Need-string-rules-requires
-string-rules-requires c κs = search needs
-
-structure-rules-requires : tie.Need-structure-rules-requires
-structure-rules-requires c κs = search needs
-
-code-rules-requires : tie.Need-code-rules-requires
-code-rules-requires c κs = search needs
-
-attribute-rules-requires : tie.Need-attribute-rules-requires
-attribute-rules-requires c κs = let low : 20 ≤ c .before .before .before .before .args .number = ⊎-elim (λ w. absurd (omega (arith, w .taken))) (λ w. omega (arith, w .3 .left)) (c .before .if1 .came) in search needs
-
-same-length : tie.Need-same-length
-same-length c = search needs
-
-returns : tie.Need-returns
-returns c = search needs
-
-same-length-2 : tie.Need-same-length-2
-same-length-2 c = search needs
-
-returns-2 : tie.Need-returns-2
-returns-2 c = search needs
-
-same-length-3 : tie.Need-same-length-3
-same-length-3 c = search needs
-
-returns-3 : tie.Need-returns-3
-returns-3 c = search needs
-
-same-length-4 : tie.Need-same-length-4
-same-length-4 c = search needs
-
-returns-4 : tie.Need-returns-4
-returns-4 c = search needs
-
+-- a rule without levels keeps its promise at any depth; those of bodies have theirs
 pub once-spec : {M : Type 1} → statement M
+unfolding rule plain
 once-spec =
     tie.close
     (tie.spec
-    string-rules-requires
-    structure-rules-requires
-    code-rules-requires
-    attribute-rules-requires
-    same-length
-    returns
-    same-length-2
-    returns-2
-    same-length-3
-    returns-3
-    same-length-4
-    returns-4)
+    (λ c κs. search (stands-first, needs))
+    (λ c κs. search (stands-first, needs))
+    (λ c κs. search (stands-first, needs))
+    (λ c κs. search (stands-first, needs))
+    (λ c κs. search (stands-first, needs))
+    (λ c κs. search (stands-first, needs))
+    (λ c κs. search (stands-first, needs))
+    (λ c κs. search (stands-one, needs))
+    (λ c κs. search (stands-first, needs))
+    (λ c κs. search (stands-first, needs))
+    (λ c κs. search (stands-first, needs))
+    (λ c κs. search (stands-first, needs))
+    (λ c κs. search (stands-first, needs))
+    (λ c κs. search (stands-first, needs))
+    (λ c κs. search (stands-first, needs))
+    (λ c κs. search (stands-first, needs))
+    (λ c κs. search (stands-first, needs))
+    (λ c κs. search (stands-first, needs))
+    (λ c κs. search (stands-first, needs))
+    (λ c κs. search (stands-first, needs))
+    (λ c κs. search (stands-first, needs))
+    (λ c κs. search (stands-first, needs))
+    (λ c κs. search (stands-first, needs))
+    (λ c κs. search (stands-first, needs))
+    (λ c κs. search (stands-first, needs))
+    (λ c. search needs)
+    (λ c. rw (c .before .before .before .before .match .keys1) (at-depth deepest-level tt (c .before .before .number .ensures)))
+    (λ c. search needs)
+    (λ c. rw (c .before .before .before .before .match .keys2) (at-depth deepest-level tt (c .before .before .number-64 .ensures)))
+    (λ c. search needs)
+    (λ c. rw (c .before .before .before .before .match .keys3) (at-depth deepest-level tt (c .before .before .quoted .ensures)))
+    (λ c. search needs)
+    (λ c. rw (c .before .before .before .before .match .keys4) (at-depth deepest-level tt (c .before .before .literal .ensures)))
+    (λ c. search needs)
+    (λ c. rw (c .before .before .before .before .match .keys5) (at-depth deepest-level tt (c .before .before .string .ensures)))
+    (λ c. search needs)
+    (λ c. rw (c .before .before .before .before .match .keys6) (at-depth deepest-level tt (c .before .before .astring .ensures)))
+    (λ c. search needs)
+    (λ c. rw (c .before .before .before .before .match .keys7) (at-depth deepest-level tt (c .before .before .nstring .ensures)))
+    (λ c. search needs)
+    (λ c. rw (c .before .before .before .before .match .keys8) (at-depth deepest-level tt (c .before .before .text .ensures)))
+    (λ c. search needs)
+    (λ c. rw (c .before .before .before .before .match .keys9) (at-depth deepest-level tt (c .before .before .sequence-set .ensures)))
+    (λ c. search needs)
+    (λ c. rw (c .before .before .before .before .match .keys10) (at-depth deepest-level tt (c .before .before .uid-set .ensures)))
+    (λ c. search needs)
+    (λ c. rw (c .before .before .before .before .match .keys11) (at-depth deepest-level tt (c .before .before .section .ensures)))
+    (λ c. search needs)
+    (λ c. rw (c .before .before .before .before .match .keys12) (at-depth deepest-level tt (c .before .before .entry-name .ensures)))
+    (λ c. search needs)
+    (λ c. rw (c .before .before .before .before .match .keys13) (at-depth deepest-level tt (c .before .before .envelope .ensures)))
+    (λ c. search needs)
+    (λ c. rw (c .before .before .before .before .match .keys14) (c .before .before .body .ensures))
+    (λ c. search needs)
+    (λ c. rw (c .before .before .before .before .match .keys15) (at-depth deepest-level tt (c .before .before .resp-text-code-append-uid .ensures)))
+    (λ c. search needs)
+    (λ c. rw (c .before .before .before .before .match .keys16) (at-depth deepest-level tt (c .before .before .resp-text-code-copy-uid .ensures)))
+    (λ c. search needs)
+    (λ c. rw (c .before .before .before .before .match .keys17) (at-depth deepest-level tt (c .before .before .resp-text-code-uid-not-sticky .ensures)))
+    (λ c. search needs)
+    (λ c. rw (c .before .before .before .before .match .keys18) (at-depth deepest-level tt (c .before .before .resp-vanished .ensures)))
+    (λ c. search needs)
+    (λ c. rw (c .before .before .before .before .match .keys19) (at-depth deepest-level tt (c .before .before .resp-text-code-highest-mod-seq .ensures)))
+    (λ c. search needs)
+    (λ c. rw (c .before .before .before .before .match .keys20) (at-depth deepest-level tt (c .before .before .msg-att-mod-seq .ensures)))
+    (λ c. search needs)
+    (λ c. rw (c .before .before .before .before .match .keys21) (at-depth deepest-level tt (c .before .before .msg-att-body-section .ensures)))
+    (λ c. search needs)
+    (λ c. rw (c .before .before .before .before .match .keys22) (at-depth deepest-level tt (c .before .before .metadata-solicited .ensures)))
+    (λ c. search needs)
+    (λ c. rw (c .before .before .before .before .match .keys23) (at-depth deepest-level tt (c .before .before .metadata-unsolicited .ensures)))
+    (λ c. search needs)
+    (λ c. rw (c .before .before .before .before .match .keys24) (at-depth deepest-level tt (c .before .before .msg-att-envelope .ensures)))
+    (λ c. search needs)
+    (λ c. rw (c .before .before .before .before .match .keys25) (c .before .before .msg-att-body-structure .ensures))
+    (λ c. absurd (let past = apart last-rule _ (c .match .rest) (c .before .before .before .pre .1 .0) in omega (arith, c .before .before .before .pre .1 .1))))

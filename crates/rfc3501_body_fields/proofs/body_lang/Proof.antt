@@ -1,42 +1,8 @@
-use borrow.Author.Needs.{needs}
 use Rattle.grammar.specs.BodyStructure.{body-lang}
-use Rattle.table.proofs.Sequence.{goes}
-use Rattle.table.proofs.Structure.{alt-stop, alt-goes}
-use mathlib.Core.Path.{refl}
+use Rattle.table.proofs.Search.{either}
 use Rattle.rfc3501_body_fields.proofs.body_lang.Statement.{statement}
 use Rattle.rfc3501_body_fields.proofs.body_lang.Tie as tie
 
-nil-requires : tie.Need-nil-requires
-nil-requires c κs = search needs
-
-enum-told : tie.Need-enum-told
-enum-told c = search needs
-
-same-length : tie.Need-same-length
-same-length c = search needs
-
-returns : tie.Need-returns
-unfolding body-lang
-returns c = alt-stop _ (c .before .before .before .nil .ensures) (c .match .keys2)
-
-languages-requires : tie.Need-languages-requires
-languages-requires c κs = search needs
-
-same-length-2 : tie.Need-same-length-2
-same-length-2 c = search needs
-
-returns-2 : tie.Need-returns-2
-unfolding body-lang
-returns-2 c = alt-goes (goes (c .before .before .before .before .before .before .before .before .nil .ensures) (c .before .before .before .before .enum-told .given .1)) (c .before .before .languages .ensures)
-
 pub body-lang-spec : {M : Type 1} → statement M
-body-lang-spec =
-    tie.close
-    (tie.spec
-    nil-requires
-    enum-told
-    same-length
-    returns
-    languages-requires
-    same-length-2
-    returns-2)
+unfolding body-lang
+body-lang-spec = tie.close (tie.spec (λ c. search either) (λ c κs. search either) (λ c. search either) (λ c. search either) (λ c κs. search either) (λ c. search either) (λ c. search either) (λ c κs. search either) (λ c. search either) (λ c. search either))

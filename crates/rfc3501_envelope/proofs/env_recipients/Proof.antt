@@ -1,59 +1,20 @@
 use borrow.Author.Needs.{needs}
+use Rattle.table.proofs.Going.{_▸▸_}
 use Rattle.grammar.specs.Envelope.{env-recipients}
-use Rattle.table.proofs.Bounds.{modest, after}
-use Rattle.table.proofs.Depth.{bare, skim-does, skim-goes}
-use Rattle.table.proofs.Length.{same}
-use Rattle.table.proofs.Sequence.{goes-on}
-use denote.Ref.{now}
-use mathlib.Core.Path.{refl}
 use Rattle.rfc3501_envelope.proofs.env_recipients.Statement.{statement}
 use Rattle.rfc3501_envelope.proofs.env_recipients.Tie as tie
 
-opt-addresses-requires : tie.Need-opt-addresses-requires
-opt-addresses-requires c κs = search needs
-
-then-char-requires : tie.Need-then-char-requires
-unfolding modest bare env-recipients
-then-char-requires c κs = after tt (c .before .before .before .before .before .before .pre) (c .before .before .opt-addresses .ensures)
-
-then-opt-addresses-requires : tie.Need-then-opt-addresses-requires
-unfolding modest bare env-recipients
-then-opt-addresses-requires c κs = after tt (c .before .before .before .before .before .before .before .before .pre) (goes-on (c .before .before .before .before .opt-addresses .ensures) (skim-goes _ tt (c .before .then-char .ensures)))
-
-then-char-requires-2 : tie.Need-then-char-requires-2
-unfolding modest bare env-recipients
-then-char-requires-2 c κs = after tt (c .before .before .before .before .before .before .before .before .before .before .before .pre) (goes-on (goes-on (c .before .before .before .before .before .before .before .opt-addresses .ensures) (skim-goes _ tt (c .before .before .before .before .then-char .ensures))) (c .before .before .then-opt-addresses .ensures))
-
-then-opt-addresses-requires-2 : tie.Need-then-opt-addresses-requires-2
-unfolding modest bare env-recipients
-then-opt-addresses-requires-2 c κs = after tt (c .before .before .before .before .before .before .before .before .before .before .before .before .before .pre) (goes-on (goes-on (goes-on (c .before .before .before .before .before .before .before .before .before .opt-addresses .ensures) (skim-goes _ tt (c .before .before .before .before .before .before .then-char .ensures))) (c .before .before .before .before .then-opt-addresses .ensures)) (skim-goes _ tt (c .before .then-char2 .ensures)))
-
-then-char-requires-3 : tie.Need-then-char-requires-3
-unfolding modest bare env-recipients
-then-char-requires-3 c κs = after tt (c .before .before .before .before .before .before .before .before .before .before .before .before .before .before .before .before .pre) (goes-on (goes-on (goes-on (goes-on (c .before .before .before .before .before .before .before .before .before .before .before .before .opt-addresses .ensures) (skim-goes _ tt (c .before .before .before .before .before .before .before .before .before .then-char .ensures))) (c .before .before .before .before .before .before .before .then-opt-addresses .ensures)) (skim-goes _ tt (c .before .before .before .before .then-char2 .ensures))) (c .before .before .then-opt-addresses2 .ensures))
-
-then-opt-addresses-requires-3 : tie.Need-then-opt-addresses-requires-3
-unfolding modest bare env-recipients
-then-opt-addresses-requires-3 c κs = after tt (c .before .before .before .before .before .before .before .before .before .before .before .before .before .before .before .before .before .before .pre) (goes-on (goes-on (goes-on (goes-on (goes-on (c .before .before .before .before .before .before .before .before .before .before .before .before .before .before .opt-addresses .ensures) (skim-goes _ tt (c .before .before .before .before .before .before .before .before .before .before .before .then-char .ensures))) (c .before .before .before .before .before .before .before .before .before .then-opt-addresses .ensures)) (skim-goes _ tt (c .before .before .before .before .before .before .then-char2 .ensures))) (c .before .before .before .before .then-opt-addresses2 .ensures)) (skim-goes _ tt (c .before .then-char3 .ensures)))
-
-same-length : tie.Need-same-length
-unfolding bare env-recipients
-same-length c = same (goes-on (goes-on (goes-on (goes-on (goes-on (goes-on (c .before .before .before .before .before .before .before .before .before .before .before .before .before .before .before .before .before .opt-addresses .ensures) (skim-goes _ tt (c .before .before .before .before .before .before .before .before .before .before .before .before .before .before .then-char .ensures))) (c .before .before .before .before .before .before .before .before .before .before .before .before .then-opt-addresses .ensures)) (skim-goes _ tt (c .before .before .before .before .before .before .before .before .before .then-char2 .ensures))) (c .before .before .before .before .before .before .before .then-opt-addresses2 .ensures)) (skim-goes _ tt (c .before .before .before .before .then-char3 .ensures))) (c .before .before .then-opt-addresses3 .ensures))
-
 returns : tie.Need-returns
-unfolding bare env-recipients
-returns c = goes-on (goes-on (goes-on (goes-on (goes-on (goes-on (c .before .before .before .before .before .before .before .before .before .before .before .before .before .before .before .before .before .opt-addresses .ensures) (skim-goes _ tt (c .before .before .before .before .before .before .before .before .before .before .before .before .before .before .then-char .ensures))) (c .before .before .before .before .before .before .before .before .before .before .before .before .then-opt-addresses .ensures)) (skim-goes _ tt (c .before .before .before .before .before .before .before .before .before .then-char2 .ensures))) (c .before .before .before .before .before .before .before .then-opt-addresses2 .ensures)) (skim-goes _ tt (c .before .before .before .before .then-char3 .ensures))) (c .before .before .then-opt-addresses3 .ensures)
+unfolding env-recipients
+returns c = let r₃ = c .before .before in let r₂ = r₃ .before .before .before .before in let r₁ = r₂ .before .before .before .before in r₁ .before .before .before .before .opt-addresses .ensures ▸▸ r₁ .sp-opt-addresses .ensures ▸▸ r₂ .sp-opt-addresses2 .ensures ▸▸ r₃ .sp-opt-addresses3 .ensures
 
 pub env-recipients-spec : {M : Type 1} → statement M
 env-recipients-spec =
     tie.close
     (tie.spec
-    opt-addresses-requires
-    then-char-requires
-    then-opt-addresses-requires
-    then-char-requires-2
-    then-opt-addresses-requires-2
-    then-char-requires-3
-    then-opt-addresses-requires-3
-    same-length
+    (λ c κs. search needs)
+    (λ c κs. search needs)
+    (λ c κs. search needs)
+    (λ c κs. search needs)
+    (λ c. search needs)
     returns)

@@ -1,42 +1,25 @@
 use borrow.Author.Needs.{needs}
+use Rattle.rfc3501_envelope.proofs.First.{firsts}
 use Rattle.grammar.specs.Envelope.{opt-addresses}
-use Rattle.table.proofs.Sequence.{goes}
-use Rattle.table.proofs.Structure.{alt-stop, alt-goes}
-use mathlib.Core.Path.{refl}
+use Rattle.table.proofs.Opens.{hungry}
 use Rattle.rfc3501_envelope.proofs.opt_addresses.Statement.{statement}
 use Rattle.rfc3501_envelope.proofs.opt_addresses.Tie as tie
 
-nil-requires : tie.Need-nil-requires
-nil-requires c κs = search needs
-
-enum-told : tie.Need-enum-told
-enum-told c = search needs
-
-same-length : tie.Need-same-length
-same-length c = search needs
-
-returns : tie.Need-returns
-unfolding opt-addresses
-returns c = alt-stop _ (c .before .before .before .nil .ensures) (c .match .keys2)
-
-some-addresses-requires : tie.Need-some-addresses-requires
-some-addresses-requires c κs = search needs
-
-same-length-2 : tie.Need-same-length-2
-same-length-2 c = search needs
-
 returns-2 : tie.Need-returns-2
-unfolding opt-addresses
-returns-2 c = alt-goes (goes (c .before .before .before .before .before .before .before .before .nil .ensures) (c .before .before .before .before .enum-told .given .1)) (c .before .before .some-addresses .ensures)
+unfolding hungry opt-addresses
+returns-2 c = search firsts
 
 pub opt-addresses-spec : {M : Type 1} → statement M
 opt-addresses-spec =
     tie.close
     (tie.spec
-    nil-requires
-    enum-told
-    same-length
-    returns
-    some-addresses-requires
-    same-length-2
-    returns-2)
+    (λ c. search firsts)
+    (λ c κs. search needs)
+    returns-2
+    (λ c. search needs)
+    (λ c κs. search needs)
+    (λ c. search needs)
+    (λ c. search firsts)
+    (λ c κs. search needs)
+    (λ c. search needs)
+    (λ c. search firsts))

@@ -1,43 +1,19 @@
 use borrow.Author.Needs.{needs}
 use Rattle.rfc3501_extension.specs.Tails.{from-dsp}
-use Rattle.table.proofs.Depth.{plain, at-depth}
-use Rattle.table.proofs.Sequence.{goes}
-use Rattle.table.proofs.Structure.{alt-stop, alt-goes}
-use mathlib.Core.Path.{refl}
+use Rattle.table.proofs.Depth.{plain}
+use Rattle.table.proofs.Search.{levels-either}
 use Rattle.rfc3501_extension.proofs.from_dsp.Statement.{statement}
 use Rattle.rfc3501_extension.proofs.from_dsp.Tie as tie
 
-dsp-tail-requires : tie.Need-dsp-tail-requires
-dsp-tail-requires c κs = search needs
-
-enum-told : tie.Need-enum-told
-enum-told c = search needs
-
-same-length : tie.Need-same-length
-same-length c = search needs
-
-returns : tie.Need-returns
-unfolding plain from-dsp
-returns c = alt-stop _ (c .before .before .before .dsp-tail .ensures) (c .match .keys2)
-
-absent-4-requires : tie.Need-absent-4-requires
-absent-4-requires c κs = search needs
-
-same-length-2 : tie.Need-same-length-2
-same-length-2 c = search needs
-
-returns-2 : tie.Need-returns-2
-unfolding plain from-dsp
-returns-2 c = alt-goes (goes (c .before .before .before .before .before .before .before .before .dsp-tail .ensures) (c .before .before .before .before .enum-told .given .1)) (at-depth (c .before .before .before .before .before .before .before .before .before .before .before .before .args .left) tt (c .before .before .absent-4 .ensures))
-
 pub from-dsp-spec : {M : Type 1} → statement M
+unfolding plain from-dsp
 from-dsp-spec =
     tie.close
     (tie.spec
-    dsp-tail-requires
-    enum-told
-    same-length
-    returns
-    absent-4-requires
-    same-length-2
-    returns-2)
+    (λ c. search levels-either)
+    (λ c κs. search needs)
+    (λ c. search needs)
+    (λ c. search levels-either)
+    (λ c κs. search needs)
+    (λ c. search needs)
+    (λ c. search levels-either))

@@ -1,35 +1,19 @@
 use borrow.Author.Needs.{needs}
 use Rattle.grammar.specs.Rfc4315.{resp-text-code-uid-not-sticky}
-use Rattle.table.proofs.Bounds.{modest, in-bounds}
-use Rattle.table.proofs.Depth.{bare, skim-does, node-bare}
-use mathlib.Core.List.{[]}
-use mathlib.Core.Path.{refl}
+use Rattle.table.proofs.Bounds.{paid}
+use Rattle.table.proofs.Search.{structure}
 use Rattle.rfc4315.proofs.resp_text_code_uid_not_sticky.Statement.{statement}
 use Rattle.rfc4315.proofs.resp_text_code_uid_not_sticky.Tie as tie
 
-slice-aggregate-tag-no-case : tie.Need-slice-aggregate-tag-no-case
-slice-aggregate-tag-no-case c = search needs
-
-tag-no-case-requires : tie.Need-tag-no-case-requires
-tag-no-case-requires c κs = search needs
-
-finish-requires : tie.Need-finish-requires
-unfolding modest bare
-finish-requires c κs = in-bounds {d = 0} tt (c .before .before .before .before .before .pre) (skim-does [] tt (c .before .tag-no-case .ensures))
-
-same-length : tie.Need-same-length
-same-length c = search needs
-
-returns : tie.Need-returns
-unfolding bare resp-text-code-uid-not-sticky
-returns c = node-bare tt (c .before .before .before .before .tag-no-case .ensures) (c .before .before .finish .ensures)
-
 pub resp-text-code-uid-not-sticky-spec : {M : Type 1} → statement M
+unfolding paid resp-text-code-uid-not-sticky
 resp-text-code-uid-not-sticky-spec =
     tie.close
     (tie.spec
-    slice-aggregate-tag-no-case
-    tag-no-case-requires
-    finish-requires
-    same-length
-    returns)
+    (λ c. search structure)
+    (λ c κs. search needs)
+    (λ c. search needs)
+    (λ c κs. search structure)
+    (λ c κs. search needs)
+    (λ c. search needs)
+    (λ c. search structure))

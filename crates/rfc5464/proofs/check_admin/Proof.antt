@@ -13,8 +13,8 @@ slice-aggregate-starts-with c = search needs
 starts-with-requires : tie.Need-starts-with-requires
 starts-with-requires c κs = c .before .before .pre
 
-add-t7 : tie.Need-add-t7
-add-t7 c = omega (arith, begins-inside (ascii "/admin") (now (c .before .before .before .before .args .name)) (c .before .before .before .before .args .l) (c .before .before .before .before .pre) (sym (c .before .starts-with .ensures) ∙ c .if1 .taken), c .before .before .before .before .good)
+add-t9 : tie.Need-add-t9
+add-t9 c = omega (arith, begins-inside (ascii "/admin") (now (c .before .before .before .before .args .name)) (c .before .before .before .before .args .l) (c .before .before .before .before .pre) (sym (c .before .starts-with .ensures) ∙ c .if1 .taken), c .before .before .before .before .good)
 
 returns : tie.Need-returns
 returns c = rw (sym (c .before .starts-with .ensures) ∙ c .if1 .taken)
@@ -28,6 +28,6 @@ check-admin-spec =
     (tie.spec
     slice-aggregate-starts-with
     starts-with-requires
-    add-t7
+    add-t9
     returns
     returns-2)

@@ -13,8 +13,8 @@ slice-aggregate-starts-with c = search needs
 starts-with-requires : tie.Need-starts-with-requires
 starts-with-requires c κs = c .before .before .pre
 
-add-t8 : tie.Need-add-t8
-add-t8 c = omega (arith, begins-inside (ascii "/comment") (now (c .before .before .before .before .args .name)) (c .before .before .before .before .args .l) (c .before .before .before .before .pre) (sym (c .before .starts-with .ensures) ∙ c .if1 .taken), c .before .before .before .before .good)
+add-t10 : tie.Need-add-t10
+add-t10 c = omega (arith, begins-inside (ascii "/comment") (now (c .before .before .before .before .args .name)) (c .before .before .before .before .args .l) (c .before .before .before .before .pre) (sym (c .before .starts-with .ensures) ∙ c .if1 .taken), c .before .before .before .before .good)
 
 returns : tie.Need-returns
 returns c = rw (sym (c .before .starts-with .ensures) ∙ c .if1 .taken)
@@ -43,7 +43,7 @@ check-vendor-comment-spec =
     (tie.spec
     slice-aggregate-starts-with
     starts-with-requires
-    add-t8
+    add-t10
     returns
     slice-aggregate-starts-with-2
     starts-with-requires-2

@@ -1,45 +1,20 @@
 use borrow.Author.Needs.{needs}
 use Rattle.grammar.specs.Notation.{parenthesized-nonempty-list}
-use Rattle.grammar.specs.Rfc5464.{entry-value}
-use Rattle.table.proofs.Bounds.{modest, after}
-use Rattle.table.proofs.Depth.{bare, skim-does, skim-goes}
-use Rattle.table.proofs.Length.{same}
-use Rattle.table.proofs.Sequence.{goes-on}
-use denote.Ref.{now}
-use mathlib.Core.Path.{refl}
+use Rattle.table.proofs.Search.{line}
 use Rattle.rfc5464.proofs.keyval_list.Statement.{statement}
 use Rattle.rfc5464.proofs.keyval_list.Tie as tie
 
-char-requires : tie.Need-char-requires
-char-requires c κs = search needs
-
-then-entry-values-requires : tie.Need-then-entry-values-requires
-unfolding modest bare parenthesized-nonempty-list entry-value
-then-entry-values-requires c κs = after tt (c .before .before .before .before .pre) (skim-does {d = 0} (now (c .before .before .before .before .args .t)) tt (c .before .char .ensures))
-
-then-space0-requires : tie.Need-then-space0-requires
-unfolding modest bare parenthesized-nonempty-list entry-value
-then-space0-requires c κs = after tt (c .before .before .before .before .before .before .before .pre) (goes-on (skim-does {d = 0} (now (c .before .before .before .before .before .before .before .args .t)) tt (c .before .before .before .before .char .ensures)) (c .before .before .then-entry-values .ensures))
-
-then-char-requires : tie.Need-then-char-requires
-unfolding modest bare parenthesized-nonempty-list entry-value
-then-char-requires c κs = after tt (c .before .before .before .before .before .before .before .before .pre) (goes-on (goes-on (skim-does {d = 0} (now (c .before .before .before .before .before .before .before .before .args .t)) tt (c .before .before .before .before .before .char .ensures)) (c .before .before .before .then-entry-values .ensures)) (skim-goes _ tt (c .then-space0 .ensures)))
-
-same-length : tie.Need-same-length
-unfolding bare parenthesized-nonempty-list entry-value
-same-length c = same (goes-on (goes-on (goes-on (skim-does {d = 0} (now (c .before .before .before .before .before .before .before .before .before .args .t)) tt (c .before .before .before .before .before .before .char .ensures)) (c .before .before .before .before .then-entry-values .ensures)) (skim-goes _ tt (c .before .then-space0 .ensures))) (skim-goes _ tt (c .then-char .ensures)))
-
 returns : tie.Need-returns
-unfolding bare parenthesized-nonempty-list entry-value
-returns c = goes-on (goes-on (goes-on (skim-does {d = 0} (now (c .before .before .before .before .before .before .before .before .before .args .t)) tt (c .before .before .before .before .before .before .char .ensures)) (c .before .before .before .before .then-entry-values .ensures)) (skim-goes _ tt (c .before .then-space0 .ensures))) (skim-goes _ tt (c .then-char .ensures))
+unfolding parenthesized-nonempty-list
+returns c = search line
 
 pub keyval-list-spec : {M : Type 1} → statement M
 keyval-list-spec =
     tie.close
     (tie.spec
-    char-requires
-    then-entry-values-requires
-    then-space0-requires
-    then-char-requires
-    same-length
+    (λ c κs. search needs)
+    (λ c κs. search needs)
+    (λ c κs. search needs)
+    (λ c κs. search needs)
+    (λ c. search needs)
     returns)
