@@ -1,26 +1,22 @@
 -- From what a scan found to what its reader promises, for every leaf.
-use Prim.Native.Nat.{ℕ, suc, _+_, _-_, _≤_, _<_}
+use Prim.Native.Nat.{ℕ, suc, _-_, _≤_, _<_}
 use mathlib.Core.Path.{_≡_, refl, sym, ap, subst, _∙_}
 use mathlib.Core.Bool.{Bool, true, false}
 use mathlib.Core.List.{List, [], _∷_}
 use native.Mathlib.Omega.{arith}
 use lib.ListN.{length, drop}
-use lib.Dec.{T, eqb}
+use lib.Dec.{eqb}
 use borrow.Author.Tests.{eq-eqb, ne-eqb}
-use Rattle.grammar.specs.Kinds.{kind-bytes}
-use Rattle.grammar.specs.Forest.{Forest, none, node-of}
+use Rattle.grammar.specs.Forest.{Forest, none}
 use Rattle.grammar.specs.Out.{Out, took, more, refused, deep, branch}
-use Rattle.grammar.specs.Scan.{Leaf, tag, tag-no-case, digits, quotes, take-while1, take-while, Class, in-class, run-move, on, end-before, fail, moved, Scanned, ended, short, failed, scan, leaf-fits, leaf-nodes, leaf-found, leaf-move, first-state, leaf-at}
-use Rattle.grammar.specs.Grammar.{G, leaf, does, node, run}
-use Rattle.grammar.specs.Core.{quoted}
+use Rattle.grammar.specs.Scan.{Leaf, take-while1, take-while, Class, in-class, run-move, on, end-before, fail, moved, Scanned, ended, short, failed, scan, leaf-fits, leaf-nodes, leaf-found, leaf-move, first-state, leaf-at}
+use Rattle.grammar.specs.Grammar.{leaf, does, node, run}
 use Rattle.grammar.specs.Rules.{levels}
-use Rattle.grammar.proofs.Tests.{branch-ind}
 use Rattle.grammar.proofs.On.{at-took}
 use Rattle.grammar.proofs.Stays.{run-stays, levels-stay}
-use Rattle.table.specs.Cursor.{first-failure, refusal, Stops}
-use Rattle.table.specs.Table.{as-step, lay}
+use Rattle.table.specs.Cursor.{first-failure, refusal}
 use Rattle.table.specs.Promise.{Room, Stands, Goes, Skims, Placed, Moved, Leafed}
-use Rattle.table.proofs.Going.{Still, Lays, skim, short-of, refuses, skims-moves, leaves, leaves-spare, leaf-still, leaf-lays, stands-stopped}
+use Rattle.table.proofs.Going.{Still, skim, short-of, refuses, skims-moves, leaves, leaves-spare, leaf-still}
 use Rattle.table.proofs.Bounds.{room, spares-none}
 use Rattle.table.proofs.Structure.{node-still, node-lays}
 use Rattle.core.specs.Scanned.{end-of, Ends}

@@ -1,6 +1,6 @@
 -- What the functions that only scan find, as numbers: a place is itself, and so a cursor with no nodes; a failure is a cursor's.
 use Prim.Native.Char.{code}
-use Prim.Native.Nat.{ℕ, _+_, _*_, _≤_, _<_}
+use Prim.Native.Nat.{ℕ, _+_, _*_, _<_}
 use mathlib.Core.Path.{_≡_}
 use mathlib.Core.List.{List}
 use lib.ListN.{length, drop, getD}
@@ -8,7 +8,7 @@ use lib.Dec.{leb}
 use Rattle.grammar.specs.Forest.{none, tree}
 use Rattle.grammar.specs.Out.{Out, took, more, refused, deep, branch}
 use Rattle.grammar.specs.Scan.{Leaf, digits, leaf-at, Scanned, ended, short, failed, scan, digits-move, header-move, two-32, largest-32}
-use Rattle.table.specs.Cursor.{step, place-of, first-failure, refusal, too-deep}
+use Rattle.table.specs.Cursor.{first-failure, refusal, too-deep}
 use Rattle.core.specs.declared.Value.{Value}
 use Rattle.core.specs.declared.Value.the-variants.{Fits, Large}
 use Rattle.core.specs.declared.Numeral.{Numeral}

@@ -2,12 +2,12 @@
 //! A reader `x(&*s, c, t)` reads one production from a cursor on; a cursor that ended it answers as it is.
 
 ghost use mathlib.Core.Path.{_≡_};
-ghost use mathlib.Core.List.{List, [], _∷_};
+ghost use mathlib.Core.List.{[], _∷_};
 ghost use Prim.Native.Nat.{ℕ, _+_, _*_, _≤_, _<_};
 ghost use lib.ListN.{length};
 ghost use lib.Dec.{eqb};
 ghost use Rattle.grammar.specs.Scan.{digit, text-char, quoted-special, list-wildcard, astring-special, astring-char, blank, capital, tag, tag-no-case, take-while1, take-while, quotes, astring-chars, text-chars, blanks};
-ghost use Rattle.grammar.specs.Grammar.{G, leaf, literal, does, node};
+ghost use Rattle.grammar.specs.Grammar.{leaf, literal, does, node};
 ghost use Rattle.grammar.specs.Notation.{_⋯_, sp, skip-opt, space0, space1};
 ghost use Rattle.grammar.specs.Core.{number, number-64, quoted, string, astring, nil, nstring, text};
 ghost use Rattle.grammar.specs.Kinds.{kind-bytes};
@@ -194,7 +194,7 @@ fn space_end(s: &[u8], at: usize) -> u64
 }
 
 // The bytes of an atom.
-pub fn astring_end(s: &[u8], at: usize) -> u64
+fn astring_end(s: &[u8], at: usize) -> u64
     requires { ⌜ Room (now s) at ⌝ }
     ensures { λ r. ⌜ Ends (take-while astring-chars) (now (s .entry)) at r ⌝ }
 {
@@ -416,7 +416,7 @@ pub fn number_64(s: &[u8], c: u64, t: &mut [u32]) -> u64
 // ----- string -----
 
 // The end of a quoted string that opens at a place: runs of text, and between two of them an escape.
-pub fn quoted_end(s: &[u8], at: usize) -> u64
+fn quoted_end(s: &[u8], at: usize) -> u64
     requires { ⌜ Room (now s) at ⌝ }
     requires { ⌜ Opened (now s) at ⌝ }
     ensures { λ r. ⌜ Ends quotes (now (s .entry)) at r ⌝ }
@@ -458,7 +458,7 @@ pub fn quoted_end(s: &[u8], at: usize) -> u64
 }
 
 // quoted = DQUOTE *QUOTED-CHAR DQUOTE, where the opening quote was seen
-pub fn quoted_from(s: &[u8], c: u64, t: &mut [u32], at: usize) -> u64
+fn quoted_from(s: &[u8], c: u64, t: &mut [u32], at: usize) -> u64
     requires { ⌜ Stands 0 (now s) c ⌝ }
     requires { ⌜ c < first-failure ⌝ }
     requires { ⌜ Placed c at ⌝ }

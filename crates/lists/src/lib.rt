@@ -4,6 +4,8 @@ ghost use Rattle.grammar.specs.Notation.{sp, _⋯_, exact, separated-list1, sep
 ghost use Rattle.grammar.specs.Core.{string, astring, sequence-set, sequence-member};
 ghost use Rattle.table.specs.Promise.{Stands, Reads};
 
+// ----- sets -----
+
 // seq-number / seq-range: a range, kept as written
 fn sequence_member(s: &[u8], c: u64, t: &mut [u32]) -> u64
     requires { ⌜ Stands 0 (now s) c ⌝ }
@@ -74,6 +76,8 @@ pub fn sequence_set(s: &[u8], c: u64, t: &mut [u32]) -> u64
         count += 1;
     }
 }
+
+// ----- lists -----
 
 // astring *(SP astring)
 fn astrings(s: &[u8], c: u64, t: &mut [u32]) -> u64

@@ -8,7 +8,7 @@ use native.Mathlib.Omega.{arith}
 use lib.ListN.{length, getD}
 use lib.Dec.{T}
 use Rattle.grammar.specs.Kinds.{kind-bytes}
-use Rattle.grammar.specs.Reading.{Result, result-at, result, deepest-level, length-limit, last-rule, room, kind-word, a-word, b-word}
+use Rattle.grammar.specs.Reading.{Result, result-at, result, deepest-level, length-limit, last-rule, room, kind-word}
 use Rattle.grammar.specs.OpenLiteral.{Open-literal}
 use Rattle.grammar.specs.Proper.{ranged, Proper, SameAnswer, Meets}
 use Rattle.grammar.proofs.Tests.{one-result, apart}

@@ -6,7 +6,7 @@
 
 ghost use mathlib.Core.Path.{_≡_};
 ghost use mathlib.Core.List.{[], _∷_, _++_};
-ghost use Prim.Native.Nat.{ℕ, _≤_};
+ghost use Prim.Native.Nat.{_≤_};
 ghost use lib.ListN.{length, take, drop};
 ghost use Rattle.grammar.specs.Rules.{rule};
 ghost use Rattle.grammar.specs.Reading.{deepest-level, length-limit, last-rule};

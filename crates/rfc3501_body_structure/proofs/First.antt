@@ -1,7 +1,7 @@
 -- A body one level deeper, and what the first byte inside it decides.
 use Prim.Native.Char.{code}
-use Prim.Native.Nat.{ℕ, _-_, _≤_, _<_}
-use mathlib.Core.Path.{_≡_, refl, sym, ap, subst, _∙_}
+use Prim.Native.Nat.{ℕ, _-_, _<_}
+use mathlib.Core.Path.{_≡_}
 use mathlib.Core.List.{List}
 use lib.ListN.{length, getD}
 use borrow.Author.Tests.{ne-eqb}
@@ -10,7 +10,7 @@ use Rattle.grammar.specs.Notation.{paren-delimited, many1}
 use Rattle.grammar.specs.Core.{quoted, string}
 use Rattle.grammar.specs.BodyStructure.{body, body-type-text, message-fields, body-type-message, body-type-basic, body-type-multipart, grammar}
 use Rattle.table.specs.Cursor.{first-failure, refusal}
-use Rattle.table.specs.Promise.{Stands, Goes, Placed, Headed}
+use Rattle.table.specs.Promise.{Goes, Placed, Headed}
 use Rattle.table.proofs.Going.{or-first, or-else, or-second, or-alone}
 use Rattle.table.proofs.Structure.{heads-done}
 use Rattle.table.proofs.Opens.{opens, ruled-out}

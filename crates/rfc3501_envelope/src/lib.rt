@@ -103,6 +103,9 @@ fn sp_opt_addresses(s: &[u8], c: u64, t: &mut [u32]) -> u64
     ensures { λ q. ⌜ Reads 0 (sp ⋯ opt-addresses) s c q t ⌝ }
 {
     let r = core::char(&*s, c, b' ');
+    if table::FAILED <= r {
+        return r;
+    }
     opt_addresses(&*s, r, t)
 }
 

@@ -1,14 +1,14 @@
 -- What an extension's first byte decides.
 use Prim.Native.Char.{code}
-use Prim.Native.Nat.{ℕ, _-_, _≤_, _<_}
-use mathlib.Core.Path.{_≡_, refl, sym, ap, subst, _∙_}
+use Prim.Native.Nat.{ℕ, _-_, _<_}
+use mathlib.Core.Path.{_≡_, sym, subst, _∙_}
 use mathlib.Core.Bool.{Bool, true, false}
 use mathlib.Core.List.{List}
 use native.Mathlib.Omega.{arith}
-use lib.Dec.{T, eqb}
+use lib.Dec.{T}
 use lib.ListN.{length, getD}
 use borrow.Author.Tests.{lt-leb, ne-eqb}
-use Rattle.grammar.specs.Scan.{digit, capital}
+use Rattle.grammar.specs.Scan.{digit}
 use Rattle.grammar.specs.Grammar.{G, seq, alt, ref, an-extension-list}
 use Rattle.grammar.specs.Core.{number, nil, quoted, string, nstring}
 use Rattle.grammar.specs.BodyStructure.{body-extension, extension-list, grammar}

@@ -1,6 +1,6 @@
 -- What is left of a body's tail from each field on: the parts of `body-tail` that this crate's functions read. (To unfold one
 -- unfolds those after it: each computes to the same.)
-use mathlib.Core.List.{List, [], _∷_}
+use mathlib.Core.List.{[], _∷_}
 use Rattle.grammar.specs.Grammar.{G}
 use Rattle.grammar.specs.Core.{nstring}
 use Rattle.grammar.specs.BodyStructure.{body-disposition, body-lang, body-extension, body-tail}

@@ -7,6 +7,8 @@ ghost use Rattle.grammar.specs.BodyStructure.{body-extension, extension-list, b
 ghost use Rattle.rfc3501_extension.specs.Tails.{from-extension, from-loc, from-lang, from-dsp};
 ghost use Rattle.table.specs.Promise.{Stands, Reads};
 
+// ----- extensions: a circle, each function of which begins with its guard, or a failure would walk the levels -----
+
 // body-extension = number / nstring / "(" body-extension *(SP body-extension) ")", by the first byte
 fn extension(s: &[u8], c: u64, t: &mut [u32], left: usize) -> u64
     requires { ⌜ Stands 0 (now s) c ⌝ }
@@ -82,6 +84,8 @@ fn extensions(s: &[u8], c: u64, t: &mut [u32], left: usize) -> u64
         count += 1;
     }
 }
+
+// ----- tails: each field after a space, and only if the one before was read -----
 
 // [SP body-extension]
 fn from_extension(s: &[u8], c: u64, t: &mut [u32], left: usize) -> u64

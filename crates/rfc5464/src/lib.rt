@@ -14,7 +14,7 @@ ghost use Rattle.rfc5464.specs.Content.{Spelled, Checked};
 
 // Where the check of a name is: at its beginning; before an optional /admin, before /vendor or /comment, before a path, at
 // a place in the name; at its end, either way.
-pub enum EntryParseStage {
+enum EntryParseStage {
     PrivateShared,
     Admin(usize),
     VendorComment(usize),
@@ -172,6 +172,8 @@ fn check_entry_name(name: &[u8]) -> bool
     }
 }
 
+// ----- an astring whose content is an entry name -----
+
 // The content of an astring that was read from a place to a next one is an entry name.
 fn check_astring(s: &[u8], at: usize, next: usize) -> bool
     requires { ⌜ Room (now s) at ⌝ }
@@ -288,6 +290,8 @@ fn keyval_list(s: &[u8], c: u64, t: &mut [u32]) -> u64
     core::char(&*s, r, b')')
 }
 
+// ----- names alone -----
+
 // entry *(SP entry)
 fn entry_names(s: &[u8], c: u64, t: &mut [u32]) -> u64
     requires { ⌜ Stands 0 (now s) c ⌝ }
@@ -327,6 +331,8 @@ fn entry_list(s: &[u8], c: u64, t: &mut [u32]) -> u64
     }
     table::mark(&*s, c, t, grammar::KIND_LIST, 0)
 }
+
+// ----- METADATA responses -----
 
 // "METADATA" SP mailbox SP; the mailbox only quoted
 fn metadata_common(s: &[u8], c: u64, t: &mut [u32]) -> u64

@@ -6,16 +6,16 @@ use mathlib.Core.List.{List}
 use native.Mathlib.Omega.{arith}
 use lib.ListN.{length}
 use lib.Dec.{T, leb, leb→le}
-use Rattle.grammar.specs.Forest.{Forest, none, node-of, size}
+use Rattle.grammar.specs.Forest.{Forest, size}
 use Rattle.grammar.specs.Out.{Out, took, more, refused, deep}
 use Rattle.grammar.specs.Grammar.{G, mark, run}
 use Rattle.grammar.specs.Reading.{length-limit}
 use Rattle.grammar.proofs.Tests.{T-left, T-right}
 use Rattle.grammar.proofs.On.{at-took}
-use Rattle.grammar.proofs.Closed.{every, Found}
-use Rattle.grammar.proofs.Size.{pays, cost-of, Costs, Paid, grammar-paid}
+use Rattle.grammar.proofs.Closed.{every}
+use Rattle.grammar.proofs.Size.{pays, cost-of, grammar-paid}
 use Rattle.table.specs.Cursor.{Step, Took, More, Refused, Deep, step, first-failure, behind, place-of, nodes-of, Stops, find}
-use Rattle.table.specs.Promise.{Stands, Went, Goes, Room, Placed, Counted, Put, Leafed, Ready, Fits, Within}
+use Rattle.table.specs.Promise.{Stands, Goes, Room, Placed, Counted, Put, Leafed, Ready, Fits, Within}
 use Rattle.table.proofs.Cursors.{step-took, took-is, at-place, packed}
 use Rattle.table.specs.Table.{onward, over}
 use Rattle.table.specs.Fill.{fill-with}

@@ -6,7 +6,7 @@ use lib.Dec.{leb, eqb}
 use borrow.Author.Tests.{le-leb, lt-leb, leb-true, leb-false, ne-eqb, eqb-true}
 use mathlib.Core.Bool.{Bool, true, false}
 use Rattle.grammar.specs.Out.{branch}
-use Rattle.table.specs.Cursor.{Step, Took, More, Refused, Deep, step, number-of, failure, first-failure, refusal, too-deep, place-of, nodes-of, Stops}
+use Rattle.table.specs.Cursor.{Took, More, Refused, Deep, step, number-of, first-failure, refusal, too-deep, place-of, nodes-of, Stops}
 use Rattle.table.specs.Promise.{Placed, Counted}
 
 -- no failure

@@ -1,22 +1,19 @@
 -- A grammar that goes no level deeper reads and writes the same with any number of levels.
-use Prim.Native.Nat.{ℕ, suc, _+_}
-use mathlib.Core.Path.{_≡_, refl, sym, ap, _∙_, fun-ext}
+use Prim.Native.Nat.{ℕ, suc}
+use mathlib.Core.Path.{_≡_, refl, ap, _∙_, fun-ext}
 use mathlib.Core.Bool.{Bool, true, false, _&&_}
 use mathlib.Core.List.{List}
-use lib.ListN.{length, take, drop}
-use native.Mathlib.Omega.{arith}
+use lib.ListN.{length, take}
 use lib.Dec.{T}
-use Rattle.grammar.specs.Forest.{Forest, none, tree, size, beside}
-use Rattle.grammar.specs.Out.{Out, took, more, refused, deep, branch, followed-by, orElse, with-before, repeated}
-use Rattle.grammar.specs.Scan.{Leaf, tag, tag-no-case, digits, quotes, take-while1, take-while, Scanned, ended, short, failed, leaf-found, leaf-fits, leaf-nodes, leaf-at, leaf-move, first-state, scan}
+use Rattle.grammar.specs.Forest.{Forest}
+use Rattle.grammar.specs.Out.{Out, took, refused, branch, followed-by, orElse, with-before, repeated}
 use Rattle.grammar.specs.EntryName.{check-entry-name}
-use Rattle.grammar.specs.Grammar.{Act, node, listed, heads, range, uid-range, dropped, act, Inner, G, leaf, literal, nothing, mark, seq, alt, star, does, entry, ref, Reader, named, run}
+use Rattle.grammar.specs.Grammar.{act, Inner, G, leaf, literal, nothing, mark, seq, alt, star, does, entry, ref, Reader, named, run}
 use Rattle.grammar.specs.Rules.{levels}
-use Rattle.grammar.proofs.Tests.{branch-ind, T-left, T-right, T-both}
-use Rattle.grammar.proofs.On.{On, on-took, on-more, on-refused, on-deep, on-then, on-else, at-took}
-use Rattle.table.specs.Cursor.{Step, Took, More, Refused, Deep, behind, find}
+use Rattle.grammar.proofs.Tests.{T-left, T-right}
+use Rattle.table.specs.Cursor.{behind}
 use Rattle.table.specs.Table.{as-step, then-table, else-table, onward}
-use Rattle.table.specs.Fill.{Filler, act-table, repeat-table, fill-with, fill-levels, fill}
+use Rattle.table.specs.Fill.{Filler, act-table, repeat-table, fill-with, fill-levels}
 use Rattle.table.specs.Promise.{Goes, Skims}
 use Rattle.table.proofs.Onward.{onward-as}
 

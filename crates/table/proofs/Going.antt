@@ -1,5 +1,5 @@
 -- The laws of `Goes`: stopping, sequences, alternatives, leaves.
-use Prim.Native.Nat.{ℕ, _+_, _-_, _*_, _%_, _/_, _≤_, _<_}
+use Prim.Native.Nat.{ℕ, _+_, _-_, _*_, _≤_, _<_}
 use mathlib.Core.Path.{_≡_, refl, sym, ap, subst, _∙_}
 use mathlib.Core.List.{List, []}
 use native.Mathlib.Omega.{arith}
@@ -13,9 +13,9 @@ use Rattle.grammar.proofs.Forests.{size-beside}
 use Rattle.table.specs.Cursor.{Step, Took, More, Refused, Deep, step, first-failure, refusal, too-deep, behind, place-of, nodes-of, Stops, find}
 use Rattle.table.specs.Table.{as-step, over, onward, then-table, else-table, lay}
 use Rattle.table.specs.Fill.{fill, fill-with}
-use Rattle.table.specs.Promise.{Stands, Went, Goes, Skims, Placed, Moved, Put, Leafed}
-use Rattle.table.proofs.Cursors.{step-failed, step-took, step-short, step-refused, step-deep, step-more, going-on, took-is, refused-is, packed, at-place}
-use Rattle.table.proofs.Length.{fill-length, onward-length}
+use Rattle.table.specs.Promise.{Stands, Went, Goes, Skims, Placed, Moved, Leafed}
+use Rattle.table.proofs.Cursors.{step-failed, step-short, step-refused, step-deep, step-more, took-is, refused-is, packed, at-place}
+use Rattle.table.proofs.Length.{fill-length}
 use Rattle.table.proofs.Onward.{onward-onward, onward-compose, onward-same, onward-as}
 
 -- nothing to do ----------------------------------------------------------------------------------------------------------------

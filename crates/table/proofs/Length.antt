@@ -1,20 +1,20 @@
 -- No reading changes the table's length.
-use Prim.Native.Nat.{ℕ, zero, suc, _+_, _*_, _≤_, _<_}
-use mathlib.Core.Path.{_≡_, refl, ap, _∙_}
+use Prim.Native.Nat.{ℕ, zero, suc, _+_}
+use mathlib.Core.Path.{_≡_, refl, _∙_}
 use mathlib.Core.Bool.{Bool, true, false}
-use mathlib.Core.List.{List, [], _∷_, _++_}
+use mathlib.Core.List.{List, _∷_}
 use native.Mathlib.Omega.{arith}
 use lib.ListN.{length, take, drop, getD, length-append, length-take, length-drop}
 use lib.Dec.{leb}
 use borrow.Author.Tests.{leb-true}
-use Rattle.grammar.specs.Forest.{Forest, none, tree, size, count}
+use Rattle.grammar.specs.Forest.{none, tree, size, count}
 use Rattle.grammar.specs.Out.{Out, took, more, refused, deep, branch, followed-by}
 use Rattle.grammar.specs.Scan.{leaf-at, literal-at}
 use Rattle.grammar.specs.Grammar.{Act, node, listed, heads, range, uid-range, dropped, act, Inner, G, leaf, literal, nothing, mark, seq, alt, star, does, entry, ref, Reader, run}
 use Rattle.grammar.specs.Rules.{levels}
 use Rattle.grammar.specs.BodyStructure.{grammar}
 use Rattle.table.specs.Cursor.{Step, Took, More, Refused, Deep}
-use Rattle.table.specs.Table.{as-step, then-table, else-table, parent-table, list-table, head-table, lay, over, rehead, onward, skip-to}
+use Rattle.table.specs.Table.{as-step, then-table, else-table, list-table, lay, over, rehead, onward, skip-to}
 use Rattle.table.specs.Fill.{Filler, act-table, repeat-table, fill-with, fill-levels, fill}
 
 -- four words for four

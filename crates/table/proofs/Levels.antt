@@ -1,12 +1,11 @@
 -- One level deeper, or no level left.
 use Prim.Native.Char.{code}
 use Prim.Native.Nat.{ℕ, zero, suc, _-_, _≤_, _<_}
-use mathlib.Core.Path.{_≡_, refl, sym, ap, subst, _∙_}
+use mathlib.Core.Path.{_≡_, refl, sym, subst, _∙_}
 use mathlib.Core.List.{List}
 use native.Mathlib.Omega.{arith}
 use lib.Dec.{T}
-use lib.ListN.{length, drop, getD}
-use borrow.Author.Tests.{eq-eqb}
+use lib.ListN.{length, getD}
 use Rattle.grammar.specs.Text.{ascii}
 use Rattle.grammar.specs.Out.{Out, took, more, refused, deep, followed-by}
 use Rattle.grammar.specs.Scan.{tag, leaf-at, leaf-move, first-state, leaf-fits}
@@ -14,8 +13,8 @@ use Rattle.grammar.specs.Grammar.{G, leaf, seq, ref, Inner, run}
 use Rattle.grammar.specs.BodyStructure.{grammar}
 use Rattle.grammar.specs.Rules.{levels}
 use Rattle.grammar.proofs.Scans.{scan-step}
-use Rattle.table.specs.Cursor.{first-failure, too-deep, step, behind, Stops, find}
-use Rattle.table.specs.Fill.{fill, fill-with, fill-levels}
+use Rattle.table.specs.Cursor.{first-failure, too-deep, step, behind, Stops}
+use Rattle.table.specs.Fill.{fill-with, fill-levels}
 use Rattle.table.specs.Promise.{Stands, Goes, Skims}
 use Rattle.table.proofs.Going.{Still, skim, and, stands-stopped}
 use Rattle.table.proofs.Cursors.{step-took, step-failed, step-deep}

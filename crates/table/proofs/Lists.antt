@@ -1,5 +1,5 @@
 -- A list lends its items the rest of the table: the invariant of its loop, and the laws of its turns and its ends.
-use Prim.Native.Nat.{ℕ, zero, suc, _+_, _-_, _*_, _≤_, _<_}
+use Prim.Native.Nat.{ℕ, zero, suc, _+_, _-_, _≤_, _<_}
 use mathlib.Core.Path.{_≡_, refl, sym, ap, subst, _∙_}
 use mathlib.Core.Bool.{Bool, true, false}
 use mathlib.Core.List.{List}
@@ -21,7 +21,7 @@ use Rattle.table.specs.Fill.{fill, fill-with, act-table, repeat-table}
 use Rattle.table.specs.Promise.{Stands, Went, Goes, Placed, Put, Lends, Listed}
 use Rattle.table.proofs.Cursors.{at-place, step-took, step-failed, refused-is, step-refused}
 use Rattle.table.proofs.Length.{fill-length, onward-length}
-use Rattle.table.proofs.Onward.{onward-zero, onward-compose, onward-onward, onward-same, onward-as, lent-out, lent-length, shift}
+use Rattle.table.proofs.Onward.{onward-zero, onward-compose, onward-onward, onward-as, lent-out, lent-length, shift}
 use Rattle.table.proofs.Going.{from, gone}
 use Rattle.table.proofs.Bounds.{paid, item, item-costs, paid-stands, starts}
 use Rattle.table.proofs.Structure.{Apart, apart-first, apart-next, apart-drop, apart-length, apart-parent, apart-no-parent, goes-length}

@@ -2,18 +2,18 @@
 use Prim.Native.Nat.{ℕ, zero, suc, _+_, _-_, _*_, _/_, _≤_, _<_}
 use mathlib.Core.Path.{_≡_, refl, sym, ap, _∙_}
 use mathlib.Core.Bool.{Bool, true, false}
-use mathlib.Core.List.{List, [], _∷_, _++_, append-assoc, append-nil}
+use mathlib.Core.List.{List, _++_, append-assoc, append-nil}
 use native.Mathlib.Omega.{arith}
-use lib.ListN.{length, take, drop, length-take, length-drop, length-append, drop-of-length-le, take-append-drop}
+use lib.ListN.{length, take, drop, length-drop, length-append, drop-of-length-le, take-append-drop}
 use lib.Seq.{take-all, take-at, drop-at, take-add, drop-drop, length-take-le}
 use lib.Dec.{leb}
 use borrow.Author.Tests.{le-leb, lt-leb, leb-true, leb-false}
 use borrow.Rule.Slice.PartMut.{putMid}
 use Rattle.grammar.specs.Out.{branch}
 use Rattle.table.specs.Cursor.{Step, Took, More, Refused, Deep}
-use Rattle.table.specs.Table.{skip-to, over, onward, then-table}
+use Rattle.table.specs.Table.{skip-to, onward, then-table}
 use Rattle.table.specs.Fill.{repeat-table}
-use Rattle.table.proofs.Length.{over-length, onward-length}
+use Rattle.table.proofs.Length.{onward-length}
 
 skip-add : (len p n : ℕ) → skip-to len p + skip-to (len - skip-to len p) n ≡ skip-to len (n + p)
 unfolding skip-to

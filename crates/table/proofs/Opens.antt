@@ -3,21 +3,18 @@ use Prim.Native.Char.{code}
 use Prim.Native.Nat.{ℕ, zero, suc, _≤_, _<_}
 use mathlib.Core.Path.{_≡_, refl, sym, ap, subst, _∙_}
 use mathlib.Core.Bool.{Bool, true, false, _||_}
-use mathlib.Core.List.{List, [], _∷_}
+use mathlib.Core.List.{List}
 use lib.Dec.{T, eqb}
 use lib.ListN.{length, drop, getD, drop-of-length-le}
 use lib.Seq.{drop-cons}
-use Rattle.grammar.specs.Forest.{Forest}
-use Rattle.grammar.specs.Out.{Out, took, more, refused, deep, branch, followed-by, with-before}
+use Rattle.grammar.specs.Out.{Out, more, refused}
 use Rattle.grammar.specs.Text.{ascii}
-use Rattle.grammar.specs.Scan.{Leaf, tag, Move, on, end-before, end-after, fail, Scanned, ended, short, failed, moved, scan, leaf-move, first-state, leaf-found, leaf-at, header-move, content, literal-at}
-use Rattle.grammar.specs.Grammar.{Act, node, listed, heads, range, uid-range, dropped, act, Inner, a-body, an-extension-list, G, leaf, literal, nothing, mark, seq, alt, star, does, entry, ref, Reader, run}
+use Rattle.grammar.specs.Scan.{tag, Move, on, end-before, end-after, fail, Scanned, short, failed, moved, scan, leaf-move, first-state, leaf-found, leaf-at, header-move, content, literal-at}
+use Rattle.grammar.specs.Grammar.{Act, node, listed, heads, range, uid-range, dropped, Inner, a-body, an-extension-list, G, leaf, literal, nothing, mark, seq, alt, star, does, entry, ref, Reader, run}
 use Rattle.grammar.specs.BodyStructure.{grammar}
 use Rattle.grammar.specs.Rules.{levels}
-use Rattle.table.specs.Cursor.{Step, find}
-use Rattle.table.specs.Table.{as-step, onward, lay}
-use Rattle.table.specs.Fill.{Filler, act-table, fill-with, fill-levels, fill}
-use Rattle.table.specs.Promise.{Goes}
+use Rattle.table.specs.Table.{onward, lay}
+use Rattle.table.specs.Fill.{Filler, act-table, fill-with, fill-levels}
 use Rattle.table.proofs.Onward.{onward-same, onward-as}
 use Rattle.table.proofs.Going.{Still}
 

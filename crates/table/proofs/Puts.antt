@@ -3,18 +3,18 @@ use Prim.Native.Nat.{ℕ, suc, _+_, _-_, _*_, _/_, _%_, _≤_, _<_}
 use mathlib.Core.Path.{_≡_, refl, sym, ap, subst, _∙_}
 use mathlib.Core.List.{List, [], _∷_, _++_, append-assoc}
 use native.Mathlib.Omega.{arith}
-use lib.ListN.{length, take, drop, set, getD, length-append, length-set, length-drop}
-use lib.Seq.{set-getD, getD-drop, sets-eq, take-at, drop-at, drop-drop, length-take-le}
+use lib.ListN.{length, take, drop, set, getD, length-drop}
+use lib.Seq.{set-getD, getD-drop, sets-eq, drop-drop}
 use lib.Dec.{leb}
 use borrow.Author.Tests.{le-leb, lt-leb}
 use mathlib.Core.Bool.{Bool, true, false}
 use Rattle.grammar.specs.Kinds.{kind-list}
 use Rattle.grammar.specs.Out.{branch}
-use Rattle.table.specs.Cursor.{Step, Took, step, first-failure, refusal, place-of, nodes-of, Stops}
+use Rattle.table.specs.Cursor.{Took, step, first-failure, refusal, place-of, nodes-of, Stops}
 use Rattle.table.specs.Table.{skip-to, over, onward, rehead}
 use Rattle.table.specs.Promise.{Placed, Counted, Put, Leafed, Lends, Finished, Listed, Headed, Moved, Ready, Fits, Within}
 use Rattle.table.proofs.Cursors.{step-failed, step-took, took-is, packed, place-is, nodes-is}
-use Rattle.table.proofs.Onward.{onward-same, onward-as}
+use Rattle.table.proofs.Onward.{onward-same}
 
 -- put ---------------------------------------------------------------------------------------------------------------------------
 

@@ -1,5 +1,5 @@
 -- A structure lends its children the rest of the table: the laws of what comes back.
-use Prim.Native.Nat.{ℕ, _+_, _-_, _*_, _/_, _%_, _≤_, _<_}
+use Prim.Native.Nat.{ℕ, _+_, _-_, _/_, _%_, _≤_, _<_}
 use mathlib.Core.Path.{_≡_, refl, sym, ap, subst, _∙_}
 use mathlib.Core.List.{List, _++_}
 use native.Mathlib.Omega.{arith}
@@ -7,15 +7,15 @@ use lib.Dec.{T}
 use lib.ListN.{length, take, drop, length-append, length-drop, take-append-drop}
 use lib.Seq.{take-at, drop-at, length-take-le}
 use borrow.Rule.Slice.PartMut.{putMid}
-use Rattle.grammar.specs.Forest.{Forest, none, tree, size, beside}
+use Rattle.grammar.specs.Forest.{Forest, none, tree, size}
 use Rattle.grammar.specs.Out.{Out, took, more, refused, deep, followed-by}
 use Rattle.grammar.specs.Grammar.{G, does, node, heads, dropped, act, headed, run}
 use Rattle.grammar.proofs.Forests.{size-beside}
-use Rattle.table.specs.Cursor.{Step, Took, More, Refused, Deep, step, first-failure, behind, place-of, nodes-of, Stops, find}
+use Rattle.table.specs.Cursor.{Took, step, first-failure, behind, place-of, nodes-of, Stops, find}
 use Rattle.table.specs.Table.{as-step, skip-to, over, onward, rehead, then-table, parent-table}
 use Rattle.table.specs.Fill.{fill, fill-with, act-table}
 use Rattle.table.specs.Promise.{Stands, Went, Goes, Skims, Placed, Put, Lends, Moved, Finished, Headed}
-use Rattle.table.proofs.Cursors.{at-place, took-is, step-took, step-failed, place-is}
+use Rattle.table.proofs.Cursors.{at-place, step-took, step-failed, place-is}
 use Rattle.table.proofs.Length.{fill-length, onward-length}
 use Rattle.table.proofs.Onward.{onward-zero, onward-same, onward-as, onward-compose, onward-parent, lent-out, lent-back}
 use Rattle.table.proofs.Going.{Keeping, Still, Lays, skim, from, went-as}

@@ -1,6 +1,6 @@
 -- How many trees side by side a reading makes: a list counts one for each of its items.
 use Prim.Native.Nat.{ℕ, _+_, _≤_, min, max}
-use mathlib.Core.Path.{_≡_, sym, _∙_}
+use mathlib.Core.Path.{_≡_}
 use mathlib.Core.Bool.{Bool, true, false, _&&_}
 use mathlib.Core.List.{List}
 use native.Mathlib.Omega.{arith}
@@ -9,7 +9,7 @@ use lib.Dec.{T, leb, leb→le}
 use Rattle.grammar.specs.Forest.{Forest, none, tree, count, beside}
 use Rattle.grammar.specs.Out.{took}
 use Rattle.grammar.specs.Scan.{Leaf, tag, tag-no-case, digits, quotes, take-while1, take-while, leaf-nodes, leaf-at, leaf-found, leaf-fits, content, literal-at, header-move, leaf-move, first-state, scan, Scanned, ended, short, failed}
-use Rattle.grammar.specs.Grammar.{Act, node, listed, heads, range, uid-range, dropped, act, as-range, as-uid-range, headed, Inner, a-body, an-extension-list, G, leaf, literal, nothing, mark, seq, alt, star, does, entry, ref}
+use Rattle.grammar.specs.Grammar.{Act, node, listed, heads, range, uid-range, dropped, act, Inner, a-body, an-extension-list, G, leaf, literal, nothing, mark, seq, alt, star, does, entry, ref}
 use Rattle.grammar.specs.BodyStructure.{grammar}
 use Rattle.grammar.proofs.Tests.{branch-ind, T-left, T-right, T-both}
 use Rattle.grammar.proofs.On.{On, on-took, on-more, on-refused, at-took}

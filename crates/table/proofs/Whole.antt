@@ -1,15 +1,12 @@
 -- What a reading of a whole buffer comes to: from the cursor 0, in a table that is just large enough, the nodes' words.
-use Prim.Native.Nat.{ℕ, _+_, _*_, _≤_}
-use mathlib.Core.Path.{_≡_, refl, sym, ap, subst, _∙_}
-use mathlib.Core.List.{List, [], _++_}
+use Prim.Native.Nat.{ℕ, _≤_}
+use mathlib.Core.Path.{_≡_, ap, _∙_}
+use mathlib.Core.List.{List}
 use native.Mathlib.Omega.{arith}
-use lib.ListN.{length, take}
-use lib.Seq.{take-all}
-use Rattle.grammar.specs.Forest.{Forest, size, words}
-use Rattle.grammar.specs.Out.{Out, took}
+use lib.ListN.{length}
 use Rattle.grammar.specs.Grammar.{G}
 use Rattle.grammar.specs.Reading.{length-limit}
-use Rattle.table.specs.Cursor.{Step, Took, step, behind, find}
+use Rattle.table.specs.Cursor.{Took, step, behind, find}
 use Rattle.table.specs.Fill.{fill}
 use Rattle.table.specs.Promise.{Stands, Goes}
 use Rattle.table.proofs.Length.{fill-length}

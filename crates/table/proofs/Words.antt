@@ -3,13 +3,13 @@ use Prim.Native.Nat.{ℕ, zero, suc, _+_, _*_, _/_, _≤_}
 use mathlib.Core.Path.{_≡_, refl, sym, ap, subst, _∙_}
 use mathlib.Core.List.{List, [], _∷_, _++_, append-nil, append-assoc}
 use native.Mathlib.Omega.{arith}
-use lib.ListN.{length, take, drop, getD, length-append, length-drop, take-append-drop}
+use lib.ListN.{length, take, drop, length-append, length-drop, take-append-drop}
 use lib.Seq.{take-at, drop-at, length-take-le}
 use borrow.Author.Tests.{le-leb}
 use Rattle.grammar.specs.Text.{ascii}
 use Rattle.grammar.specs.Kinds.{kind-list}
 use Rattle.grammar.specs.Forest.{Forest, none, tree, node-of, size, count, words, beside}
-use Rattle.grammar.specs.Out.{Out, took, more, refused, deep, branch, followed-by, orElse, with-before, again, repeated}
+use Rattle.grammar.specs.Out.{Out, took, more, refused, deep, followed-by, orElse, with-before, again, repeated}
 use Rattle.grammar.specs.Scan.{Leaf, tag, tag-no-case, digits, quotes, take-while1, take-while, Scanned, ended, short, failed, leaf-found, leaf-fits, leaf-nodes, leaf-at, leaf-move, first-state, scan, content, literal-at, header-move}
 use Rattle.grammar.specs.EntryName.{check-entry-name}
 use Rattle.grammar.specs.Grammar.{Act, node, listed, heads, range, uid-range, dropped, act, as-range, as-uid-range, headed, Inner, G, leaf, literal, nothing, mark, seq, alt, star, does, entry, ref, Reader, named, run}

@@ -8,7 +8,7 @@ use Rattle.grammar.specs.Scan.{leaf-at, literal-at}
 use Rattle.grammar.specs.Grammar.{Act, node, listed, heads, range, uid-range, dropped, act, Inner, G, leaf, literal, nothing, mark, seq, alt, star, does, entry, ref, Reader, run}
 use Rattle.grammar.specs.BodyStructure.{grammar}
 use Rattle.grammar.specs.Rules.{levels}
-use Rattle.table.specs.Cursor.{Step, Took, More, Refused, Deep}
+use Rattle.table.specs.Cursor.{Step}
 use Rattle.table.specs.Table.{as-step, then-table, else-table, parent-table, list-table, head-table, lay, over, onward}
 
 -- a reading's bytes and place, and a table

@@ -9,7 +9,7 @@ use Rattle.grammar.specs.Kinds.{kind-list}
 use Rattle.grammar.specs.Out.{Out}
 use Rattle.grammar.specs.Grammar.{G}
 use Rattle.grammar.specs.Reading.{length-limit}
-use Rattle.table.specs.Cursor.{Step, Took, step, behind, place-of, nodes-of, Stops, find, first-failure, refusal}
+use Rattle.table.specs.Cursor.{Took, step, behind, place-of, nodes-of, Stops, find, first-failure, refusal}
 use Rattle.table.specs.Table.{skip-to, over, onward, rehead}
 use Rattle.table.specs.Fill.{fill}
 

@@ -3,7 +3,7 @@ use Prim.Native.Nat.{ℕ, _+_, _*_, _/_}
 use mathlib.Core.List.{List, _∷_, _++_}
 use lib.ListN.{length, take, drop, getD}
 use lib.Dec.{leb}
-use Rattle.grammar.specs.Forest.{Forest, none, tree, size, count}
+use Rattle.grammar.specs.Forest.{none, tree, size, count}
 use Rattle.grammar.specs.Out.{Out, took, more, refused, deep, branch}
 use Rattle.grammar.specs.Kinds.{kind-list}
 use Rattle.table.specs.Cursor.{Step, Took, More, Refused, Deep}

@@ -2,10 +2,10 @@
 //! `specs/Cursor.antt` says what a cursor means, `specs/Promise.antt` what every reader promises.
 
 ghost use mathlib.Core.Path.{_≡_};
-ghost use Prim.Native.Nat.{ℕ, _+_, _-_, _*_, _/_, _%_, _≤_, _<_};
+ghost use Prim.Native.Nat.{_+_, _-_, _*_, _/_, _%_, _≤_, _<_};
 ghost use Rattle.grammar.specs.Grammar.{mark};
 ghost use Rattle.grammar.specs.Reading.{length-limit};
-ghost use Rattle.table.specs.Cursor.{step, place-of, nodes-of, first-failure};
+ghost use Rattle.table.specs.Cursor.{first-failure};
 ghost use Rattle.table.specs.Promise.{Stands, Reads, Placed, Counted, Moved, Put, Leafed, Lends, Finished, Listed, Headed, Ready, Fits, Within};
 
 // From here on a cursor is a failure; this one is "unfinished, nothing wanted of a literal's content".
@@ -100,7 +100,7 @@ pub fn found_value(d: u64) -> u32
 // ----- the table -----
 
 // The n-th node's words, if the table has room for them.
-pub fn put(t: &mut [u32], n: usize, kind: u32, a: u32, b: u32, size: u32)
+fn put(t: &mut [u32], n: usize, kind: u32, a: u32, b: u32, size: u32)
     requires { ⌜ n < 4294967296 ⌝ }
     ensures { λ r. ⌜ Put n kind a b size (now (t .entry)) (now (t .exit)) ⌝ }
 {

@@ -1,7 +1,7 @@
 use Prim.Native.Nat.{_-_}
 use lib.ListN.{length}
 use Rattle.grammar.specs.Scan.{text-chars}
-use Rattle.core.proofs.Runs.{Running, runs}
+use Rattle.core.proofs.Runs.{Running, running}
 use Rattle.core.proofs.text_end.Statement.{statement}
 use Rattle.core.proofs.text_end.Tie as tie
 
@@ -17,11 +17,11 @@ text-end-spec =
     (tie.spec
     Inv-loop
     μ-loop
-    (λ c. search runs)
-    (λ c. search runs)
-    (λ c κs. search runs)
-    (λ c. search runs)
-    (λ c. search runs)
-    (λ c. search runs)
-    (λ c. search runs)
-    (λ c. search runs))
+    (λ c. search running)
+    (λ c. search running)
+    (λ c κs. search running)
+    (λ c. search running)
+    (λ c. search running)
+    (λ c. search running)
+    (λ c. search running)
+    (λ c. search running))

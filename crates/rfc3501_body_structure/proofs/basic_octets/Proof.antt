@@ -1,7 +1,6 @@
 use borrow.Author.Needs.{needs}
-use Rattle.table.proofs.Going.{_▸_, _▹_, _▸▸_, early}
+use Rattle.table.proofs.Going.{_▸_, _▸▸_}
 use Rattle.grammar.specs.Notation.{sp}
-use Rattle.table.proofs.Search.{line}
 use Rattle.rfc3501_body_structure.proofs.basic_octets.Statement.{statement}
 use Rattle.rfc3501_body_structure.proofs.basic_octets.Tie as tie
 

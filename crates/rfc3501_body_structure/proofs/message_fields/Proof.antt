@@ -2,7 +2,6 @@ use borrow.Author.Needs.{needs}
 use Rattle.table.proofs.Search.{first-skims}
 use Rattle.table.proofs.Going.{_▸_, _▹_, _▸▸_, early}
 use Rattle.grammar.specs.BodyStructure.{message-fields}
-use Rattle.table.proofs.Search.{line}
 use Rattle.rfc3501_body_structure.proofs.message_fields.Statement.{statement}
 use Rattle.rfc3501_body_structure.proofs.message_fields.Tie as tie
 

@@ -1,7 +1,7 @@
 use borrow.Author.Needs.{needs}
 use Rattle.grammar.specs.BodyStructure.{msg-att-body-structure}
 use Rattle.table.proofs.Depth.{plain}
-use Rattle.table.proofs.Search.{levels-line, spare}
+use Rattle.table.proofs.Search.{levels-line}
 use Rattle.rfc3501_body_structure.proofs.msg_att_body_structure.Statement.{statement}
 use Rattle.rfc3501_body_structure.proofs.msg_att_body_structure.Tie as tie
 

@@ -1,8 +1,7 @@
 use borrow.Author.Needs.{needs}
 use Rattle.table.proofs.Search.{first-skims}
-use Rattle.table.proofs.Going.{_▸_, _▹_, _▸▸_, early}
+use Rattle.table.proofs.Going.{_▸_, _▸▸_, early}
 use Rattle.grammar.specs.Notation.{sp}
-use Rattle.table.proofs.Search.{line}
 use Rattle.rfc3501_body_structure.proofs.text_lines.Statement.{statement}
 use Rattle.rfc3501_body_structure.proofs.text_lines.Tie as tie
 

@@ -8,6 +8,9 @@ returns : tie.Need-returns
 unfolding sp
 returns c = search line
 
+returns-2 : tie.Need-returns-2
+unfolding sp
+returns-2 c = search line
+
 pub sp-opt-addresses-spec : {M : Type 1} → statement M
-sp-opt-addresses-spec =
-    tie.close (tie.spec (λ c κs. search needs) (λ c κs. search needs) (λ c. search needs) returns)
+sp-opt-addresses-spec = tie.close (tie.spec (λ c κs. search needs) returns (λ c κs. search needs) (λ c. search needs) returns-2)

@@ -4,7 +4,7 @@ use Rattle.grammar.specs.BodyStructure.{body-param}
 use Rattle.grammar.specs.Notation.{sp}
 use Rattle.table.proofs.Bounds.{leaves-of}
 use Rattle.table.proofs.Depth.{plain}
-use Rattle.table.proofs.Search.{levels-line, spare}
+use Rattle.table.proofs.Search.{levels-line}
 use Rattle.rfc3501_extension.proofs.param_tail.Statement.{statement}
 use Rattle.rfc3501_extension.proofs.param_tail.Tie as tie
 

@@ -1,4 +1,3 @@
-use borrow.Author.Needs.{needs}
 use native.Mathlib.Omega.{arith}
 use Rattle.rfc5464.proofs.Names.{vendor-cut, vendor-no-slash, vendor-named, vendor-nameless}
 use Rattle.rfc5464.proofs.check_vendor.Statement.{statement}

@@ -1,4 +1,3 @@
-use borrow.Author.Needs.{needs}
 use Rattle.rfc5464.proofs.Names.{component-last}
 use borrow.Author.Tests.{lt-ltb, le-ltb, eq-eqb, ne-eqb}
 use Rattle.rfc5464.proofs.is_entry_component_char.Statement.{statement}

@@ -1,5 +1,4 @@
 use borrow.Author.Needs.{needs}
-use mathlib.Core.Path.{refl}
 use Rattle.table.proofs.Bounds.{mark-done, spares-none}
 use Rattle.table.proofs.Going.{failed}
 use Rattle.table.proofs.mark.Statement.{statement}
