@@ -11,7 +11,7 @@
 #ifndef ELBOMAVUND_H
 #define ELBOMAVUND_H
 
-#define ELBOMAVUND_VERSION "0.2.0"
+#define ELBOMAVUND_VERSION "0.2.1"
 
 #include <stddef.h>
 #include <stdint.h>

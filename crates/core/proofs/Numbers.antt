@@ -29,7 +29,7 @@ use Rattle.core.specs.declared.Value.{Value}
 use Rattle.core.specs.declared.Value.the-variants.{Fits, Large}
 use Rattle.core.specs.declared.Numeral.{Numeral}
 use Rattle.core.specs.declared.Numeral.the-variants as numeral
-use Rattle.core.specs.Scanned.{number-of, value-of, valued-digits, as-digits, Counts, Counts64}
+use Rattle.core.specs.Scanned.{Overruns, number-of, value-of, valued-digits, as-digits, Counts, Counts64}
 use Rattle.core.proofs.Scanning.{Scanning, scanning-starts, scanning-on, scanning-short, scanning-ends-before, scanning-fails}
 
 -- a digit ------------------------------------------------------------------------------------------------------------------
@@ -186,25 +186,6 @@ module _ {largest : ℕ} {s : List ℕ} {at i : ℕ} {value : Value} (inv : Coun
 
 -- up to 4294967295, in one number ------------------------------------------------------------------------------------------------
 
--- what is held of a sum: the sum, or that it is too large
-pub data Held (v sum : ℕ) : Type 0 where
-  held-all : v ≡ sum → Held v sum
-  held-large : largest-32 < v → largest-32 < sum → Held v sum
-
--- THE INVARIANT of `digits_32`: of the digits' value the code holds what `Held` says
-pub record Counting32 (s : List ℕ) (at i v : ℕ) : Type 0 where
-  pub sum : ℕ
-  pub held : Held v sum
-  pub summing : Summing s at i sum
-
-held-small : {v sum : ℕ} → Held v sum → v ≤ largest-32 → v ≡ sum
-held-small (held-all p) h = p
-held-small (held-large l n) h = absurd (omega arith)
-
-held-beyond : {v sum : ℕ} → Held v sum → largest-32 < v → largest-32 < sum
-held-beyond (held-all p) h = omega arith
-held-beyond (held-large l n) h = n
-
 -- what is found, as the code's number
 as-number : {s : List ℕ} {at : ℕ} {x : Scanned} {d : ℕ} → scan digits-move 0 0 (drop at s) at ≡ x
     → d ≡ number-of (leaf-found (digits largest-32) at x) → Counts s at d
@@ -221,52 +202,78 @@ module _ {s : List ℕ} {at : ℕ} {t : Bool} (h : at < length s) (p : t ≡ dig
   counts32-wrong q = as-number (sum-fails s at h p q) refl
 
   -- a first digit
-  pub counting32-starts : t ≡ true → Counting32 s at (at + 1) (getD s at 0 - code "0")
-  counting32-starts q = record {
-    sum = getD s at 0 - code "0";
-    held = held-all refl;
-    summing = sum-starts s at h p q;
-  }
+  pub counting32-starts : t ≡ true → Summing s at (at + 1) (getD s at 0 - code "0")
+  counting32-starts q = sum-starts s at h p q
 
-module _ {s : List ℕ} {at i v : ℕ} (inv : Counting32 s at i v) where
+module _ {s : List ℕ} {at i v : ℕ} (inv : Summing s at i v) where
   -- the buffer ends
   pub counts32-short : length s ≤ i → Counts s at first-failure
-  counts32-short h = as-number (scanning-short (inv .summing .scanning) h) refl
+  counts32-short h = as-number (scanning-short (inv .scanning) h) refl
 
-  module _ {t : Bool} (h : i < length s) (q : t ≡ true) (p : t ≡ digit (getD s i 0)) where
-    -- one more digit
-    pub counting32-on : {v′ : ℕ} → v ≤ largest-32 → v′ ≡ v * 10 + (getD s i 0 - code "0") → Counting32 s at (i + 1) v′
-    counting32-on l r =
-        let same = held-small (inv .held) l in
-        record {
-          sum = inv .sum * 10 + (getD s i 0 - code "0");
-          held = held-all (omega arith);
-          summing = sum-on (inv .summing) h p q;
-        }
+  -- one more digit
+  pub counting32-on : {t : Bool} → i < length s → t ≡ true → t ≡ digit (getD s i 0) → Summing s at (i + 1) (v * 10 + (getD s i 0 - code "0"))
+  counting32-on h q p = sum-on inv h p q
 
-    -- of a value that is too large
-    pub counting32-stays : {v′ : ℕ} → largest-32 < v → v′ ≡ v → Counting32 s at (i + 1) v′
-    counting32-stays l r =
-        let large = held-beyond (inv .held) l in
-        record {
-          sum = inv .sum * 10 + (getD s i 0 - code "0");
-          held = held-large (omega arith) (omega arith);
-          summing = sum-on (inv .summing) h p q;
-        }
+  -- the value is too large
+  pub counts32-over : {r : ℕ} → largest-32 < v → Overruns s i r → Counts s at r
+  unfolding leaf-at leaf-move first-state
+  counts32-over l x = record { is = x .is at v l ∙ ap (λ (z : Scanned). number-of (leaf-found (digits largest-32) at z)) (inv .scanning .same) }
 
   module _ {t : Bool} (h : i < length s) (q : t ≡ false) (p : t ≡ digit (getD s i 0)) where
     -- a byte that is none: behind a value that is too large
     pub counts32-large : largest-32 < v → Counts s at refusal
     unfolding leaf-fits
-    counts32-large l =
-        as-number (sum-ends (inv .summing) h p q) (rw (lt-leb (inv .sum) largest-32 (held-beyond (inv .held) l)))
+    counts32-large l = as-number (sum-ends inv h p q) (rw (lt-leb v largest-32 l))
 
     -- and behind one that is not
     pub counts32-ends : {d : ℕ} → v ≤ largest-32 → d ≡ i * two-32 + v → Counts s at d
     unfolding leaf-fits leaf-nodes
-    counts32-ends l r =
-        let same : v ≡ inv .sum = held-small (inv .held) l in
-        as-number (sum-ends (inv .summing) h p q) (rw (le-leb (inv .sum) largest-32 (omega arith)) (omega arith))
+    counts32-ends l r = as-number (sum-ends inv h p q) (rw (le-leb v largest-32 l) (omega arith))
+
+-- the rest of a number that is too large -------------------------------------------------------------------------------------------
+
+-- from any value on: the digits up to i only add to it
+pub record Added (s : List ℕ) (at i value : ℕ) : Type 0 where
+  pub sum : ℕ
+  pub grown : value ≤ sum
+  pub scanning : Scanning digits-move 1 value s at 1 sum i
+
+-- THE INVARIANT of `too_large`
+pub record Overrunning (s : List ℕ) (at i : ℕ) : Type 0 where
+  pub from : (value : ℕ) → Added s at i value
+  pub inside : i ≤ length s
+
+pub over-starts : {s : List ℕ} {at : ℕ} → Room s at → Overrunning s at at
+over-starts room = record {
+  from = λ value. record { sum = value; grown = omega arith; scanning = scanning-starts (room .inside) };
+  inside = room .inside;
+}
+
+module _ {s : List ℕ} {at i : ℕ} (inv : Overrunning s at i) where
+  pub over-short : length s ≤ i → Overruns s at first-failure
+  over-short h = record { is = λ start value l. sym (ap (λ (z : Scanned). number-of (leaf-found (digits largest-32) start z)) (scanning-short (inv .from value .scanning) h)) }
+
+  module _ {t : Bool} (h : i < length s) where
+    pub over-on : t ≡ true → t ≡ digit (getD s i 0) → Overrunning s at (i + 1)
+    over-on q p = record {
+      from = λ value.
+          let x = inv .from value in
+          let e : digit (getD s i 0) ≡ true = sym p ∙ q in
+          let m : digits-move 1 (x .sum) (getD s i 0) ≡ on 1 (x .sum * 10 + (getD s i 0 - code "0")) = rw e in
+          record { sum = x .sum * 10 + (getD s i 0 - code "0"); grown = omega (arith, x .grown); scanning = scanning-on (x .scanning) h m };
+      inside = omega arith;
+    }
+
+    pub over-ends : t ≡ false → t ≡ digit (getD s i 0) → Overruns s at refusal
+    unfolding leaf-fits
+    over-ends q p = record {
+      is = λ start value l.
+          let x = inv .from value in
+          let e : digit (getD s i 0) ≡ false = sym p ∙ q in
+          let m : digits-move 1 (x .sum) (getD s i 0) ≡ end-before (x .sum) = rw e in
+          let large : largest-32 < x .sum = omega (arith, x .grown) in
+          sym (ap (λ (z : Scanned). number-of (leaf-found (digits largest-32) start z)) (scanning-ends-before (x .scanning) h m) ∙ rw (lt-leb (x .sum) largest-32 large));
+    }
 
 -- what the answers say of the leaf -----------------------------------------------------------------------------------------------
 

@@ -7,7 +7,7 @@ use lib.ListN.{length, drop, getD}
 use lib.Dec.{leb}
 use Rattle.grammar.specs.Forest.{none, tree}
 use Rattle.grammar.specs.Out.{Out, took, more, refused, deep, branch}
-use Rattle.grammar.specs.Scan.{Leaf, digits, leaf-at, Scanned, ended, short, failed, scan, digits-move, header-move, two-32, largest-32}
+use Rattle.grammar.specs.Scan.{Leaf, digits, leaf-at, leaf-found, Scanned, ended, short, failed, scan, digits-move, header-move, two-32, largest-32}
 use Rattle.table.specs.Cursor.{first-failure, refusal, too-deep}
 use Rattle.core.specs.declared.Value.{Value}
 use Rattle.core.specs.declared.Value.the-variants.{Fits, Large}
@@ -42,6 +42,10 @@ number-of deep = too-deep
 
 pub record Counts (s : List ℕ) (at d : ℕ) : Type 0 where
   pub is : d ≡ number-of (leaf-at (digits largest-32) s at)
+
+-- the rest of one whose value is too large already, whatever it is and wherever it began
+pub record Overruns (s : List ℕ) (at r : ℕ) : Type 0 where
+  pub is : (start value : ℕ) → largest-32 < value → r ≡ number-of (leaf-found (digits largest-32) start (scan digits-move 1 value (drop at s) at))
 
 -- one of 64: a value that may be too large
 abbrev pub value-of : ℕ → ℕ → Value

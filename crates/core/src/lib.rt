@@ -13,7 +13,7 @@ ghost use Rattle.grammar.specs.Core.{number, number-64, quoted, string, astring
 ghost use Rattle.grammar.specs.Kinds.{kind-bytes};
 ghost use Rattle.table.specs.Promise.{Room, Stands, Reads, Skips, Placed};
 ghost use Rattle.table.specs.Cursor.{first-failure};
-ghost use Rattle.core.specs.Scanned.{Ends, Opened, value-of, valued-digits, Counts, Counts64, Headers};
+ghost use Rattle.core.specs.Scanned.{Ends, Opened, value-of, valued-digits, Counts, Overruns, Counts64, Headers};
 
 // A number's value, as long as it is not too large.
 enum Value {
@@ -271,6 +271,22 @@ pub fn opt_space(s: &[u8], c: u64) -> u64
 
 // ----- number -----
 
+// The rest of a number that is too large: it is wrong once its end is seen.
+fn too_large(s: &[u8], at: usize) -> u64
+    requires { ⌜ Room (now s) at ⌝ }
+    ensures { λ r. ⌜ Overruns (now (s .entry)) at r ⌝ }
+{
+    let mut i = at;
+    while i < s.len() {
+        if is_digit(s[i]) {
+            i += 1;
+        } else {
+            return table::REFUSED;
+        }
+    }
+    table::FAILED
+}
+
 // number = 1*DIGIT, up to 4294967295; a larger one is wrong once its end is seen.
 pub fn digits_32(s: &[u8], at: usize) -> u64
     requires { ⌜ Room (now s) at ⌝ }
@@ -286,10 +302,10 @@ pub fn digits_32(s: &[u8], at: usize) -> u64
         while i < s.len() {
             let b = s[i];
             if is_digit(b) {
-                // a value that is too large stays so
-                if v <= 4294967295 {
-                    v = v * 10 + (b - b'0') as u64;
+                if 4294967295 < v {
+                    return too_large(&*s, i);
                 }
+                v = v * 10 + (b - b'0') as u64;
                 i += 1;
             } else {
                 if 4294967295 < v {

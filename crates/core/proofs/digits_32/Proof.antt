@@ -1,20 +1,15 @@
 use Prim.Native.Nat.{_-_}
-use mathlib.Core.Logic.{⊎-elim}
 use lib.ListN.{length}
 use borrow.Author.Needs.{needs}
-use Rattle.core.proofs.Numbers.{digit-least, digit-word, digit-adds, Counting32, counts32-none, counts32-wrong, counting32-starts, counting32-on, counting32-stays}
-use Rattle.core.proofs.Numbers.{counts32-short, counts32-large, counts32-ends}
+use Rattle.core.proofs.Numbers.{digit-least, digit-word, digit-adds, Summing, counts32-none, counts32-wrong, counting32-starts, counting32-on, counts32-over, counts32-short, counts32-large, counts32-ends}
 use Rattle.core.proofs.digits_32.Statement.{statement}
 use Rattle.core.proofs.digits_32.Tie as tie
 
 abbrev Inv-loop : tie.InvT-loop
-Inv-loop s at first i₀ v₀ i v = Counting32 s at i v
+Inv-loop s at first i₀ v₀ i v = Summing s at i v
 
 abbrev μ-loop : tie.MeasureT-loop
 μ-loop s at first i₀ v₀ i v = length s - i
-
-loop-again : tie.Need-loop-again Inv-loop μ-loop
-loop-again c = ⊎-elim (λ w. search (counting32-on, w .0 .taken, w .1)) (λ w. search (counting32-stays, w .0 .left, w .1)) (c .if4 .came)
 
 pub digits-32-spec : {M : Type 1} → statement M
 digits-32-spec =
@@ -31,13 +26,15 @@ digits-32-spec =
     (λ c. search (counting32-starts, needs))
     (λ c. search needs)
     (λ c κs. search needs)
+    (λ c κs. search needs)
+    (λ c. search (counts32-over, needs))
     (λ c. search needs)
     (λ c. search digit-least)
     (λ c. search digit-word)
     (λ c. search (digit-adds, needs))
     (λ c. search needs)
     (λ c. search needs)
-    loop-again
+    (λ c. search (counting32-on, needs))
     (λ c. search (counts32-large, needs))
     (λ c κs. search needs)
     (λ c. search (counts32-ends, needs))
