@@ -9,7 +9,7 @@ use Rattle.grammar.specs.Out.{Out, took, more, refused, deep, followed-by, orEl
 use Rattle.grammar.specs.Scan.{Leaf, leaf-at, literal-at}
 use Rattle.grammar.specs.Grammar.{G, leaf, literal, nothing, seq, alt, run}
 use Rattle.grammar.specs.Reading.{length-limit}
-use Rattle.grammar.proofs.Forests.{size-beside}
+use Rattle.grammar.proofs.Forests.{size-beside, beside-assoc}
 use Rattle.table.specs.Cursor.{Step, Took, More, Refused, Deep, step, first-failure, refusal, too-deep, behind, place-of, nodes-of, Stops, find}
 use Rattle.table.specs.Table.{as-step, over, onward, then-table, else-table, lay}
 use Rattle.table.specs.Fill.{fill, fill-with}
@@ -110,11 +110,6 @@ pub _▹_ : {g h : G} {s : List ℕ} {c q r : ℕ} {t t₁ : List ℕ} → Goes 
 x ▹ y = and-skims x y
 
 -- h and k were read as one: a sequence may be grouped either way
-beside-assoc : (f g h : Forest) → beside (beside f g) h ≡ beside f (beside g h)
-unfolding beside
-beside-assoc none g h = refl
-beside-assoc (tree k a b x y) g h = ap (tree k a b x) (beside-assoc y g h)
-
 abbrev then-find : Out → (ℕ → Out) → Out
 then-find o k = followed-by o (λ e f. with-before f (k e))
 

@@ -13,7 +13,7 @@ use Rattle.grammar.specs.Forest.{Forest, none, tree, size, count, beside}
 use Rattle.grammar.specs.Out.{Out, took, more, refused, deep, followed-by, with-before, again}
 use Rattle.grammar.specs.Grammar.{G, seq, star, does, listed, act, run}
 use Rattle.grammar.proofs.Tests.{T-true}
-use Rattle.grammar.proofs.Forests.{size-beside}
+use Rattle.grammar.proofs.Forests.{size-beside, beside-assoc, beside-none}
 use Rattle.grammar.proofs.Steps.{levels-star-step}
 use Rattle.table.specs.Cursor.{Step, Took, More, Refused, Deep, step, first-failure, refusal, behind, place-of, nodes-of, Stops, find}
 use Rattle.table.specs.Table.{as-step, onward, over, then-table, list-table}
@@ -89,16 +89,6 @@ module _ (d : ℕ) (h : G) (s : List ℕ) (m : T (item h)) where
 -- a first item, and more
 abbrev pub list-of : G → G → G
 list-of g h = does listed (seq g (star h))
-
-beside-assoc : (f g h : Forest) → beside (beside f g) h ≡ beside f (beside g h)
-unfolding beside
-beside-assoc none g h = refl
-beside-assoc (tree k a b x y) g h = ap (tree k a b x) (beside-assoc y g h)
-
-beside-none : (f : Forest) → beside f none ≡ f
-unfolding beside
-beside-none none = refl
-beside-none (tree k a b x y) = ap (tree k a b x) (beside-none y)
 
 with-both : (f g : Forest) (o : Out) → with-before f (with-before g o) ≡ with-before (beside f g) o
 with-both f g (took e h) = ap (took e) (sym (beside-assoc f g h))

@@ -77,6 +77,10 @@ pub onward-as : (n : ℕ) (f g : List ℕ → List ℕ) (t : List ℕ) → ((u :
 unfolding onward
 onward-as n f g t h = ap (λ (v : List ℕ). take (skip-to (length t) n) t ++ v) (h (drop (skip-to (length t) n) t))
 
+-- what writes nothing anywhere writes nothing there
+pub onward-still : (n : ℕ) (write : List ℕ → List ℕ) → ((u : List ℕ) → write u ≡ u) → (t : List ℕ) → onward n write t ≡ t
+onward-still n write still t = onward-as n write (λ u. u) t still ∙ sym (onward-same n t)
+
 -- a parent's words over what was written behind them
 pub onward-parent : (n : ℕ) (f g : List ℕ → List ℕ) (t : List ℕ) → ((u : List ℕ) → length (g u) ≡ length u)
     → onward n f (onward (1 + n) g t) ≡ onward n (λ u. f (onward 1 g u)) t

@@ -15,7 +15,7 @@ use Rattle.grammar.specs.BodyStructure.{grammar}
 use Rattle.grammar.specs.Rules.{levels}
 use Rattle.table.specs.Table.{onward, lay}
 use Rattle.table.specs.Fill.{Filler, act-table, fill-with, fill-levels}
-use Rattle.table.proofs.Onward.{onward-same, onward-as}
+use Rattle.table.proofs.Onward.{onward-still}
 use Rattle.table.proofs.Going.{Still}
 
 -- a first byte ----------------------------------------------------------------------------------------------------------------
@@ -80,13 +80,10 @@ unfolding scan
 scan-short move state s at l = ap (λ (u : List ℕ). scan move state 0 u at) (drop-of-length-le s l)
 
 -- what an act makes of a reading that wrote nothing and failed: nothing
-onward-idle : (write : List ℕ → List ℕ) (t : List ℕ) → ((u : List ℕ) → write u ≡ u) → onward 1 write t ≡ t
-onward-idle write t still = onward-as 1 write (λ u. u) t still ∙ sym (onward-same 1 t)
-
 act-refused : (a : Act) (at : ℕ) (write : List ℕ → List ℕ) (t : List ℕ) → ((u : List ℕ) → write u ≡ u) → act-table a at refused write t ≡ t
 unfolding act-table
-act-refused (node kind) at write t still = onward-idle write t still
-act-refused listed at write t still = onward-idle write t still
+act-refused (node kind) at write t still = onward-still 1 write still t
+act-refused listed at write t still = onward-still 1 write still t
 act-refused heads at write t still = still t
 act-refused range at write t still = refl
 act-refused uid-range at write t still = refl
@@ -94,8 +91,8 @@ act-refused dropped at write t still = refl
 
 act-more : (a : Act) (at : ℕ) (write : List ℕ → List ℕ) (t : List ℕ) → ((u : List ℕ) → write u ≡ u) → act-table a at (more 0) write t ≡ t
 unfolding act-table
-act-more (node kind) at write t still = onward-idle write t still
-act-more listed at write t still = onward-idle write t still
+act-more (node kind) at write t still = onward-still 1 write still t
+act-more listed at write t still = onward-still 1 write still t
 act-more heads at write t still = still t
 act-more range at write t still = refl
 act-more uid-range at write t still = refl

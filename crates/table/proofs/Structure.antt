@@ -17,7 +17,7 @@ use Rattle.table.specs.Fill.{fill, fill-with, act-table}
 use Rattle.table.specs.Promise.{Stands, Went, Goes, Skims, Placed, Put, Lends, Moved, Finished, Headed}
 use Rattle.table.proofs.Cursors.{at-place, step-took, step-failed, place-is}
 use Rattle.table.proofs.Length.{fill-length, onward-length}
-use Rattle.table.proofs.Onward.{onward-zero, onward-same, onward-as, onward-compose, onward-parent, lent-out, lent-back}
+use Rattle.table.proofs.Onward.{onward-zero, onward-same, onward-as, onward-still, onward-compose, onward-parent, lent-out, lent-back}
 use Rattle.table.proofs.Going.{Keeping, Still, Lays, skim, from, went-as}
 use Rattle.table.proofs.Bounds.{paid, paid-stands, starts}
 
@@ -128,7 +128,7 @@ module _ {g : G} {kind : ℕ} {s : List ℕ} {c at : ℕ} (going : c < first-fai
       still u = sym (children .on u .went at 0 (starts going stands placed) .wrote ∙ onward-zero (λ w. fill 0 g s at w) u)
 
       bare : (u : List ℕ) → onward 1 (λ w. fill 0 g s at w) u ≡ u
-      bare u = onward-as 1 (λ w. fill 0 g s at w) (λ w. w) u still ∙ sym (onward-same 1 u)
+      bare u = onward-still 1 (λ w. fill 0 g s at w) still u
 
       stop : (o : Out) → step inner ≡ behind 0 o → ((n : ℕ) → behind 0 o ≡ behind n o) → Stops (step inner)
           → Went (nodes-of (step c)) o (λ u. onward 1 (λ w. fill 0 g s at w) u) q t t′
@@ -230,20 +230,17 @@ module _ {g : G} {s : List ℕ} {c at : ℕ} (going : c < first-failure) (stands
 
 -- a node over bytes that make none, from what they are -----------------------------------------------------------------------
 
-onward-still : (write : List ℕ → List ℕ) → ((u : List ℕ) → write u ≡ u) → (u : List ℕ) → onward 1 write u ≡ u
-onward-still write still u = onward-as 1 write (λ w. w) u still ∙ sym (onward-same 1 u)
-
 module _ {d : ℕ} {g : G} (kind : ℕ) {s : List ℕ} {at : ℕ} where
   pub node-lays : {e : ℕ} → Still d g s at (took e none) → Lays d (does (node kind) g) s at e kind at e
   unfolding run act fill-with act-table size
   node-lays {e} x = record {
     read = rw (x .read);
-    wrote = λ t. rw (x .read) (ap (over kind at e 1) (onward-still (λ w. fill d g s at w) (x .wrote) t));
+    wrote = λ t. rw (x .read) (ap (over kind at e 1) (onward-still 1 (λ w. fill d g s at w) (x .wrote) t));
   }
 
   pub node-still : (o : Out) → Stops (as-step o) → Still d g s at o → Still d (does (node kind) g) s at o
   unfolding run act fill-with act-table
   node-still (took e f) h x = absurd h
-  node-still (more w) h x = record { read = rw (x .read); wrote = λ t. rw (x .read) (onward-still (λ w. fill d g s at w) (x .wrote) t) }
-  node-still refused h x = record { read = rw (x .read); wrote = λ t. rw (x .read) (onward-still (λ w. fill d g s at w) (x .wrote) t) }
-  node-still deep h x = record { read = rw (x .read); wrote = λ t. rw (x .read) (onward-still (λ w. fill d g s at w) (x .wrote) t) }
+  node-still (more w) h x = record { read = rw (x .read); wrote = λ t. rw (x .read) (onward-still 1 (λ w. fill d g s at w) (x .wrote) t) }
+  node-still refused h x = record { read = rw (x .read); wrote = λ t. rw (x .read) (onward-still 1 (λ w. fill d g s at w) (x .wrote) t) }
+  node-still deep h x = record { read = rw (x .read); wrote = λ t. rw (x .read) (onward-still 1 (λ w. fill d g s at w) (x .wrote) t) }

@@ -11,8 +11,10 @@ ghost use Rattle.table.specs.Promise.{Stands, Reads, Placed, Counted, Mo
 // From here on a cursor is a failure; this one is "unfinished, nothing wanted of a literal's content".
 pub const FAILED: u64 = 9223372036854775808;
 
+// Not the grammar.
 pub const REFUSED: u64 = 13835058055282163712;
 
+// A level too many.
 pub const DEEP: u64 = 13835058055282163713;
 
 // One node more, in a cursor.
