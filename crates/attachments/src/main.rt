@@ -7,6 +7,8 @@
 //! `filename*` undecoded: bytes that do not print are escaped, so that a line of the list stays a line. Where a FILE is
 //! not accepted, its line says the answer, and the next FILE is read.
 
+#![tactic(auto)]
+
 ghost use Rattle.std.specs.Prelude.{◌<◌, ◌≤◌, length};
 ghost use Rattle.command_line.specs.Words.{Loads};
 

@@ -1,6 +1,8 @@
 //! Answers lines of readings on standard input: `RULE WORDS HEX` in, `ANSWER TAKEN NODES WANTED WORD ..` out. docs/TESTS.md says what
 //! a line is and where those in `stdin` come from; `rows` has them as text.
 
+#![tactic(auto)]
+
 ghost use Rattle.std.specs.Prelude.{◌≤◌, length};
 
 use reader::Answer;

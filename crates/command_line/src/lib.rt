@@ -2,6 +2,8 @@
 //! in words and as exit statuses, and files read whole. specs/Words.antt says what each function that only computes gives;
 //! what is written to a terminal or read from a file no promise can say.
 
+#![tactic(auto)]
+
 ghost use Rattle.std.specs.Prelude.{◌≡◌, ℕ, ◌+◌, ◌≤◌, max, length};
 ghost use Rattle.command_line.specs.Words.{same_word, parameter, before_dot, cell, find_name, rule_names, decimal, numbered, rule_asked, closed, open_at, Opens, subtree_end, Loads, status_of, Sent};
 

@@ -1,5 +1,7 @@
 //! Sets and lists: the rest of imap-proto 0.17.0's src/core.rs.
 
+#![tactic(auto)]
+
 ghost use Rattle.grammar.specs.Notation.{sp, ◌⋯◌, exact, separated_list1, separated_list0, parenthesized_list, parenthesized_nonempty_list};
 ghost use Rattle.grammar.specs.Core.{string, astring, sequence_set, sequence_member};
 ghost use Rattle.table.specs.Promise.{Stands, Reads};
@@ -9,7 +11,7 @@ ghost use Rattle.table.specs.Promise.{Stands, Reads};
 // seq-number / seq-range: a range, kept as written
 fn sequence_member(s: &[u8], c: u64, t: &mut [u32]) -> u64
     requires { Stands 0 s.now c }
-    ensures { Reads 0 sequence_member s c result t }
+    ensures { Reads 0 sequence_member s.now c result t.old t.new }
 {
     if table::FAILED <= c {
         return c;
@@ -43,7 +45,7 @@ fn sequence_member(s: &[u8], c: u64, t: &mut [u32]) -> u64
 // "," sequence-member
 fn comma_member(s: &[u8], c: u64, t: &mut [u32]) -> u64
     requires { Stands 0 s.now c }
-    ensures { Reads 0 (exact "," ⋯ sequence_member) s c result t }
+    ensures { Reads 0 (exact "," ⋯ sequence_member) s.now c result t.old t.new }
 {
     let r = parser_core::char(&*s, c, b',');
     if table::FAILED <= r {
@@ -55,7 +57,7 @@ fn comma_member(s: &[u8], c: u64, t: &mut [u32]) -> u64
 // sequence-set = (seq-number / seq-range) *("," sequence-set)
 pub fn sequence_set(s: &[u8], c: u64, t: &mut [u32]) -> u64
     requires { Stands 0 s.now c }
-    ensures { Reads 0 sequence_set s c result t }
+    ensures { Reads 0 sequence_set s.now c result t.old t.new }
 {
     if table::FAILED <= c {
         return c;
@@ -82,7 +84,7 @@ pub fn sequence_set(s: &[u8], c: u64, t: &mut [u32]) -> u64
 // astring *(SP astring)
 fn astrings(s: &[u8], c: u64, t: &mut [u32]) -> u64
     requires { Stands 0 s.now c }
-    ensures { Reads 0 (separated_list1 sp astring) s c result t }
+    ensures { Reads 0 (separated_list1 sp astring) s.now c result t.old t.new }
 {
     if table::FAILED <= c {
         return c;
@@ -107,7 +109,7 @@ fn astrings(s: &[u8], c: u64, t: &mut [u32]) -> u64
 // [astring *(SP astring)]
 fn opt_astrings(s: &[u8], c: u64, t: &mut [u32]) -> u64
     requires { Stands 1 s.now c }
-    ensures { Reads 0 (separated_list0 sp astring) s c result t }
+    ensures { Reads 0 (separated_list0 sp astring) s.now c result t.old t.new }
 {
     if table::FAILED <= c {
         return c;
@@ -122,7 +124,7 @@ fn opt_astrings(s: &[u8], c: u64, t: &mut [u32]) -> u64
 // parenthesized_list of astrings: at most one space before ")", and it may be empty
 pub fn parenthesized_astrings(s: &[u8], c: u64, t: &mut [u32]) -> u64
     requires { Stands 0 s.now c }
-    ensures { Reads 0 (parenthesized_list astring) s c result t }
+    ensures { Reads 0 (parenthesized_list astring) s.now c result t.old t.new }
 {
     let r = parser_core::char(&*s, c, b'(');
     let r = opt_astrings(&*s, r, t);
@@ -133,7 +135,7 @@ pub fn parenthesized_astrings(s: &[u8], c: u64, t: &mut [u32]) -> u64
 // string *(SP string)
 fn strings(s: &[u8], c: u64, t: &mut [u32]) -> u64
     requires { Stands 0 s.now c }
-    ensures { Reads 0 (separated_list1 sp string) s c result t }
+    ensures { Reads 0 (separated_list1 sp string) s.now c result t.old t.new }
 {
     if table::FAILED <= c {
         return c;
@@ -158,7 +160,7 @@ fn strings(s: &[u8], c: u64, t: &mut [u32]) -> u64
 // parenthesized_nonempty_list of strings: any run of blanks before ")"
 pub fn parenthesized_strings(s: &[u8], c: u64, t: &mut [u32]) -> u64
     requires { Stands 0 s.now c }
-    ensures { Reads 0 (parenthesized_nonempty_list string) s c result t }
+    ensures { Reads 0 (parenthesized_nonempty_list string) s.now c result t.old t.new }
 {
     let r = parser_core::char(&*s, c, b'(');
     let r = strings(&*s, r, t);

@@ -1,6 +1,8 @@
 //! Numbers and strings: imap-proto 0.17.0's src/core.rs, with cursors for slices and a lent table for values.
 //! A reader `x(&*s, c, t)` reads one production from a cursor on; a cursor that ended it answers as it is.
 
+#![tactic(auto)]
+
 ghost use Rattle.std.specs.Prelude.{◌≡◌, [], ◌∷◌, ℕ, ◌+◌, ◌*◌, ◌≤◌, ◌<◌, length, eqb};
 ghost use Rattle.grammar.specs.Scan.{digit, text_char, quoted_special, list_wildcard, astring_special, astring_char, blank, capital, tag, tag_no_case, take_while1, take_while, quotes, astring_chars, text_chars, blanks};
 ghost use Rattle.grammar.specs.Grammar.{leaf, literal, does, node};
@@ -132,7 +134,7 @@ fn same_letter(a: u8, b: u8) -> bool
 // Exactly this byte.
 pub fn char(s: &[u8], c: u64, b: u8) -> u64
     requires { Stands 0 s.now c }
-    ensures { Skips (leaf (tag (b ∷ []))) s c result }
+    ensures { Skips (leaf (tag (b ∷ []))) s.now c result }
 {
     if table::FAILED <= c {
         return c;
@@ -152,7 +154,7 @@ pub fn char(s: &[u8], c: u64, b: u8) -> u64
 pub fn tag_no_case(s: &[u8], c: u64, word: &[u8]) -> u64
     requires stands { Stands 0 s.now c }
     requires in_bounds { 1 ≤ length word.now }
-    ensures { Skips (leaf (tag_no_case word.now)) s c result }
+    ensures { Skips (leaf (tag_no_case word.now)) s.now c result }
 {
     if table::FAILED <= c {
         return c;
@@ -226,7 +228,7 @@ fn text_end(s: &[u8], at: usize) -> u64
 // Spaces and tabs, or none.
 pub fn space0(s: &[u8], c: u64) -> u64
     requires { Stands 0 s.now c }
-    ensures { Skips space0 s c result }
+    ensures { Skips space0 s.now c result }
 {
     if table::FAILED <= c {
         return c;
@@ -241,7 +243,7 @@ pub fn space0(s: &[u8], c: u64) -> u64
 // Spaces and tabs, one or more.
 pub fn space1(s: &[u8], c: u64) -> u64
     requires { Stands 0 s.now c }
-    ensures { Skips space1 s c result }
+    ensures { Skips space1 s.now c result }
 {
     if table::FAILED <= c {
         return c;
@@ -261,7 +263,7 @@ pub fn space1(s: &[u8], c: u64) -> u64
 // At most one space.
 pub fn opt_space(s: &[u8], c: u64) -> u64
     requires { Stands 0 s.now c }
-    ensures { Skips (skip_opt sp) s c result }
+    ensures { Skips (skip_opt sp) s.now c result }
 {
     let q = char(&*s, c, b' ');
     if q == table::REFUSED { c } else { q }
@@ -320,7 +322,7 @@ pub fn digits_32(s: &[u8], at: usize) -> u64
 // number = 1*DIGIT ; Unsigned 32-bit integer
 pub fn number(s: &[u8], c: u64, t: &mut [u32]) -> u64
     requires { Stands 0 s.now c }
-    ensures { Reads 0 number s c result t }
+    ensures { Reads 0 number s.now c result t.old t.new }
 {
     if table::FAILED <= c {
         return c;
@@ -342,7 +344,7 @@ pub fn number(s: &[u8], c: u64, t: &mut [u32]) -> u64
 // SP number
 pub fn sp_number(s: &[u8], c: u64, t: &mut [u32]) -> u64
     requires { Stands 0 s.now c }
-    ensures { Reads 0 (sp ⋯ number) s c result t }
+    ensures { Reads 0 (sp ⋯ number) s.now c result t.old t.new }
 {
     let r = char(&*s, c, b' ');
     if table::FAILED <= r {
@@ -405,7 +407,7 @@ fn digits(s: &[u8], at: usize, largest: u64) -> Numeral
 // same as `number` but 64-bit
 pub fn number_64(s: &[u8], c: u64, t: &mut [u32]) -> u64
     requires { Stands 0 s.now c }
-    ensures { Reads 0 number_64 s c result t }
+    ensures { Reads 0 number_64 s.now c result t.old t.new }
 {
     if table::FAILED <= c {
         return c;
@@ -477,7 +479,7 @@ fn quoted_from(s: &[u8], c: u64, t: &mut [u32], at: usize) -> u64
     requires c_lt_first_failure { c < first_failure }
     requires placed { Placed c at }
     requires opened { Opened s.now at }
-    ensures { Reads 0 quoted s c result t }
+    ensures { Reads 0 quoted s.now c result t.old t.new }
 {
     let e = quoted_end(&*s, at);
     if table::FAILED <= e {
@@ -497,7 +499,7 @@ fn quoted_from(s: &[u8], c: u64, t: &mut [u32], at: usize) -> u64
 // quoted = DQUOTE *QUOTED-CHAR DQUOTE
 pub fn quoted(s: &[u8], c: u64, t: &mut [u32]) -> u64
     requires { Stands 0 s.now c }
-    ensures { Reads 0 quoted s c result t }
+    ensures { Reads 0 quoted s.now c result t.old t.new }
 {
     if table::FAILED <= c {
         return c;
@@ -558,7 +560,7 @@ pub fn literal_header(s: &[u8], at: usize) -> u64
 // literal = "{" number "}" CRLF *CHAR8 ; Number represents the number of CHAR8s
 pub fn literal(s: &[u8], c: u64, t: &mut [u32]) -> u64
     requires { Stands 0 s.now c }
-    ensures { Reads 0 literal s c result t }
+    ensures { Reads 0 literal s.now c result t.old t.new }
 {
     if table::FAILED <= c {
         return c;
@@ -578,7 +580,7 @@ pub fn literal(s: &[u8], c: u64, t: &mut [u32]) -> u64
 // string = quoted / literal, by the first byte
 pub fn string(s: &[u8], c: u64, t: &mut [u32]) -> u64
     requires { Stands 0 s.now c }
-    ensures { Reads 0 string s c result t }
+    ensures { Reads 0 string s.now c result t.old t.new }
 {
     if table::FAILED <= c {
         return c;
@@ -596,7 +598,7 @@ pub fn string(s: &[u8], c: u64, t: &mut [u32]) -> u64
 // SP string
 pub fn sp_string(s: &[u8], c: u64, t: &mut [u32]) -> u64
     requires { Stands 0 s.now c }
-    ensures { Reads 0 (sp ⋯ string) s c result t }
+    ensures { Reads 0 (sp ⋯ string) s.now c result t.old t.new }
 {
     let r = char(&*s, c, b' ');
     if table::FAILED <= r {
@@ -610,7 +612,7 @@ pub fn sp_string(s: &[u8], c: u64, t: &mut [u32]) -> u64
 // 1*ASTRING-CHAR
 fn astring_chars(s: &[u8], c: u64, t: &mut [u32]) -> u64
     requires { Stands 0 s.now c }
-    ensures { Reads 0 (does (node kind_bytes) (leaf (take_while1 astring_chars))) s c result t }
+    ensures { Reads 0 (does (node kind_bytes) (leaf (take_while1 astring_chars))) s.now c result t.old t.new }
 {
     if table::FAILED <= c {
         return c;
@@ -630,7 +632,7 @@ fn astring_chars(s: &[u8], c: u64, t: &mut [u32]) -> u64
 // astring = 1*ASTRING-CHAR / string
 pub fn astring(s: &[u8], c: u64, t: &mut [u32]) -> u64
     requires { Stands 0 s.now c }
-    ensures { Reads 0 astring s c result t }
+    ensures { Reads 0 astring s.now c result t.old t.new }
 {
     let r = astring_chars(&*s, c, t);
     if r != table::REFUSED {
@@ -642,7 +644,7 @@ pub fn astring(s: &[u8], c: u64, t: &mut [u32]) -> u64
 // SP astring
 pub fn sp_astring(s: &[u8], c: u64, t: &mut [u32]) -> u64
     requires { Stands 0 s.now c }
-    ensures { Reads 0 (sp ⋯ astring) s c result t }
+    ensures { Reads 0 (sp ⋯ astring) s.now c result t.old t.new }
 {
     let r = char(&*s, c, b' ');
     if table::FAILED <= r {
@@ -656,7 +658,7 @@ pub fn sp_astring(s: &[u8], c: u64, t: &mut [u32]) -> u64
 // nil = "NIL"
 pub fn nil(s: &[u8], c: u64, t: &mut [u32]) -> u64
     requires { Stands 0 s.now c }
-    ensures { Reads 0 nil s c result t }
+    ensures { Reads 0 nil s.now c result t.old t.new }
 {
     if table::FAILED <= c {
         return c;
@@ -668,7 +670,7 @@ pub fn nil(s: &[u8], c: u64, t: &mut [u32]) -> u64
 // nstring = string / nil, by the first byte
 pub fn nstring(s: &[u8], c: u64, t: &mut [u32]) -> u64
     requires { Stands 0 s.now c }
-    ensures { Reads 0 nstring s c result t }
+    ensures { Reads 0 nstring s.now c result t.old t.new }
 {
     if table::FAILED <= c {
         return c;
@@ -690,7 +692,7 @@ pub fn nstring(s: &[u8], c: u64, t: &mut [u32]) -> u64
 // SP nstring
 pub fn sp_nstring(s: &[u8], c: u64, t: &mut [u32]) -> u64
     requires { Stands 0 s.now c }
-    ensures { Reads 0 (sp ⋯ nstring) s c result t }
+    ensures { Reads 0 (sp ⋯ nstring) s.now c result t.old t.new }
 {
     let r = char(&*s, c, b' ');
     if table::FAILED <= r {
@@ -704,7 +706,7 @@ pub fn sp_nstring(s: &[u8], c: u64, t: &mut [u32]) -> u64
 // text = *TEXT-CHAR
 pub fn text(s: &[u8], c: u64, t: &mut [u32]) -> u64
     requires { Stands 1 s.now c }
-    ensures { Reads 0 text s c result t }
+    ensures { Reads 0 text s.now c result t.old t.new }
 {
     if table::FAILED <= c {
         return c;

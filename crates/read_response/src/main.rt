@@ -1,6 +1,8 @@
 //! Reads pieces of responses, each by a rule and from a file or standard input, and shows the answers and the nodes as trees.
 //! docs/COMMANDS.md says how it is used; the script `read` at the repository's root runs it.
 
+#![tactic(auto)]
+
 ghost use Rattle.std.specs.Prelude.{◌≤◌, length};
 ghost use Rattle.command_line.specs.Words.{Loads};
 

@@ -4,6 +4,8 @@
 //! there; a reading with more nodes than those words hold makes a second pass, which is lent exactly its nodes' words of the
 //! table. So a reading that is not accepted changes no word, and an abandoned alternative leaves nothing behind.
 
+#![tactic(auto)]
+
 ghost use Rattle.std.specs.Prelude.{◌≡◌, [], ◌∷◌, ◌++◌, ◌≤◌, length, take, drop};
 ghost use Rattle.grammar.specs.Rules.{rule};
 ghost use Rattle.grammar.specs.Reading.{deepest_level, length_limit, last_rule};
@@ -30,7 +32,7 @@ pub enum Answer {
 fn once(number: u32, s: &[u8], t: &mut [u32]) -> u64
     requires s_in_bounds { length s.now ≤ length_limit }
     requires le_number { (1 ≤ number) × (number ≤ last_rule) }
-    ensures { Reads deepest_level (rule number) s 0 result t }
+    ensures { Reads deepest_level (rule number) s.now 0 result t.old t.new }
 {
     match number {
         1 => parser_core::number(&*s, 0, t),

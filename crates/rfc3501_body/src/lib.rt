@@ -1,5 +1,7 @@
 //! Sections and BODY items: imap-proto 0.17.0's src/rfc3501/body.rs.
 
+#![tactic(auto)]
+
 ghost use Rattle.std.specs.Prelude.{◌≤◌, length};
 ghost use Rattle.grammar.specs.Kinds.{kind_section_text, kind_section_part};
 ghost use Rattle.grammar.specs.Scan.{tag_no_case};
@@ -12,7 +14,7 @@ ghost use Rattle.table.specs.Promise.{Stands, Reads, Skips};
 // [".NOT"]
 fn opt_not(s: &[u8], c: u64) -> u64
     requires { Stands 0 s.now c }
-    ensures { Skips (skip_opt (any_case ".NOT")) s c result }
+    ensures { Skips (skip_opt (any_case ".NOT")) s.now c result }
 {
     if table::FAILED <= c {
         return c;
@@ -27,7 +29,7 @@ fn opt_not(s: &[u8], c: u64) -> u64
 // header-list, its names' nodes dropped: it is lent no table
 fn header_list(s: &[u8], c: u64) -> u64
     requires { Stands 0 s.now c }
-    ensures { Skips (does dropped (parenthesized_list astring)) s c result }
+    ensures { Skips (does dropped (parenthesized_list astring)) s.now c result }
 {
     if table::FAILED <= c {
         return c;
@@ -43,7 +45,7 @@ fn header_list(s: &[u8], c: u64) -> u64
 // "HEADER.FIELDS" [".NOT"] SP header-list
 fn header_fields(s: &[u8], c: u64, t: &mut [u32]) -> u64
     requires { Stands 0 s.now c }
-    ensures { Reads 0 header_fields s c result t }
+    ensures { Reads 0 header_fields s.now c result t.old t.new }
 {
     let r = parser_core::tag_no_case(&*s, c, b"HEADER.FIELDS");
     let r = opt_not(&*s, r);
@@ -56,7 +58,7 @@ fn header_fields(s: &[u8], c: u64, t: &mut [u32]) -> u64
 fn text_is(s: &[u8], c: u64, t: &mut [u32], name: &[u8], which: u32) -> u64
     requires stands { Stands 0 s.now c }
     requires in_bounds { 1 ≤ length name.now }
-    ensures { Reads 0 (leaf (tag_no_case name.now) ⋯ mark kind_section_text which) s c result t }
+    ensures { Reads 0 (leaf (tag_no_case name.now) ⋯ mark kind_section_text which) s.now c result t.old t.new }
 {
     let r = parser_core::tag_no_case(&*s, c, &*name);
     table::mark(&*s, r, t, grammar::KIND_SECTION_TEXT, which)
@@ -65,7 +67,7 @@ fn text_is(s: &[u8], c: u64, t: &mut [u32], name: &[u8], which: u32) -> u64
 // section-msgtext = "HEADER" / "HEADER.FIELDS" [".NOT"] SP header-list / "TEXT"
 fn section_msgtext(s: &[u8], c: u64, t: &mut [u32]) -> u64
     requires { Stands 0 s.now c }
-    ensures { Reads 0 section_msgtext s c result t }
+    ensures { Reads 0 section_msgtext s.now c result t.old t.new }
 {
     if table::FAILED <= c {
         return c;
@@ -84,7 +86,7 @@ fn section_msgtext(s: &[u8], c: u64, t: &mut [u32]) -> u64
 // section-text = section-msgtext / "MIME"
 fn section_text(s: &[u8], c: u64, t: &mut [u32]) -> u64
     requires { Stands 0 s.now c }
-    ensures { Reads 0 section_text s c result t }
+    ensures { Reads 0 section_text s.now c result t.old t.new }
 {
     if table::FAILED <= c {
         return c;
@@ -99,7 +101,7 @@ fn section_text(s: &[u8], c: u64, t: &mut [u32]) -> u64
 // "." nz-number
 fn dot_number(s: &[u8], c: u64, t: &mut [u32]) -> u64
     requires { Stands 0 s.now c }
-    ensures { Reads 0 (exact "." ⋯ number) s c result t }
+    ensures { Reads 0 (exact "." ⋯ number) s.now c result t.old t.new }
 {
     let r = parser_core::char(&*s, c, b'.');
     if table::FAILED <= r {
@@ -111,7 +113,7 @@ fn dot_number(s: &[u8], c: u64, t: &mut [u32]) -> u64
 // section-part = nz-number *("." nz-number)
 fn section_part(s: &[u8], c: u64, t: &mut [u32]) -> u64
     requires { Stands 0 s.now c }
-    ensures { Reads 0 section_part s c result t }
+    ensures { Reads 0 section_part s.now c result t.old t.new }
 {
     if table::FAILED <= c {
         return c;
@@ -136,7 +138,7 @@ fn section_part(s: &[u8], c: u64, t: &mut [u32]) -> u64
 // "." section-text
 fn dot_text(s: &[u8], c: u64, t: &mut [u32]) -> u64
     requires { Stands 0 s.now c }
-    ensures { Reads 0 (exact "." ⋯ section_text) s c result t }
+    ensures { Reads 0 (exact "." ⋯ section_text) s.now c result t.old t.new }
 {
     let r = parser_core::char(&*s, c, b'.');
     if table::FAILED <= r {
@@ -148,7 +150,7 @@ fn dot_text(s: &[u8], c: u64, t: &mut [u32]) -> u64
 // ["." section-text]
 fn opt_text(s: &[u8], c: u64, t: &mut [u32]) -> u64
     requires { Stands 1 s.now c }
-    ensures { Reads 0 (opt (exact "." ⋯ section_text)) s c result t }
+    ensures { Reads 0 (opt (exact "." ⋯ section_text)) s.now c result t.old t.new }
 {
     if table::FAILED <= c {
         return c;
@@ -163,7 +165,7 @@ fn opt_text(s: &[u8], c: u64, t: &mut [u32]) -> u64
 // section-part ["." section-text]
 fn part_fields(s: &[u8], c: u64, t: &mut [u32]) -> u64
     requires { Stands 0 s.now c }
-    ensures { Reads 0 (section_part ⋯ opt (exact "." ⋯ section_text)) s c result t }
+    ensures { Reads 0 (section_part ⋯ opt (exact "." ⋯ section_text)) s.now c result t.old t.new }
 {
     let r = section_part(&*s, c, t);
     opt_text(&*s, r, t)
@@ -172,7 +174,7 @@ fn part_fields(s: &[u8], c: u64, t: &mut [u32]) -> u64
 // The same as a node
 fn part(s: &[u8], c: u64, t: &mut [u32]) -> u64
     requires { Stands 0 s.now c }
-    ensures { Reads 0 (does (node kind_section_part) (section_part ⋯ opt (exact "." ⋯ section_text))) s c result t }
+    ensures { Reads 0 (does (node kind_section_part) (section_part ⋯ opt (exact "." ⋯ section_text))) s.now c result t.old t.new }
 {
     if table::FAILED <= c {
         return c;
@@ -185,7 +187,7 @@ fn part(s: &[u8], c: u64, t: &mut [u32]) -> u64
 // section-spec = section-msgtext / (section-part ["." section-text])
 fn section_spec(s: &[u8], c: u64, t: &mut [u32]) -> u64
     requires { Stands 0 s.now c }
-    ensures { Reads 0 section_spec s c result t }
+    ensures { Reads 0 section_spec s.now c result t.old t.new }
 {
     if table::FAILED <= c {
         return c;
@@ -200,7 +202,7 @@ fn section_spec(s: &[u8], c: u64, t: &mut [u32]) -> u64
 // [section-spec]
 fn opt_spec(s: &[u8], c: u64, t: &mut [u32]) -> u64
     requires { Stands 1 s.now c }
-    ensures { Reads 0 (opt section_spec) s c result t }
+    ensures { Reads 0 (opt section_spec) s.now c result t.old t.new }
 {
     if table::FAILED <= c {
         return c;
@@ -215,7 +217,7 @@ fn opt_spec(s: &[u8], c: u64, t: &mut [u32]) -> u64
 // section = "[" [section-spec] "]"
 pub fn section(s: &[u8], c: u64, t: &mut [u32]) -> u64
     requires { Stands 0 s.now c }
-    ensures { Reads 0 section s c result t }
+    ensures { Reads 0 section s.now c result t.old t.new }
 {
     let r = parser_core::char(&*s, c, b'[');
     let r = opt_spec(&*s, r, t);
@@ -225,7 +227,7 @@ pub fn section(s: &[u8], c: u64, t: &mut [u32]) -> u64
 // "<" number ">"
 fn index(s: &[u8], c: u64, t: &mut [u32]) -> u64
     requires { Stands 0 s.now c }
-    ensures { Reads 0 (exact "<" ⋯ number ⋯ exact ">") s c result t }
+    ensures { Reads 0 (exact "<" ⋯ number ⋯ exact ">") s.now c result t.old t.new }
 {
     let r = parser_core::char(&*s, c, b'<');
     let r = parser_core::number(&*s, r, t);
@@ -235,7 +237,7 @@ fn index(s: &[u8], c: u64, t: &mut [u32]) -> u64
 // ["<" number ">"]
 fn opt_index(s: &[u8], c: u64, t: &mut [u32]) -> u64
     requires { Stands 1 s.now c }
-    ensures { Reads 0 (opt (exact "<" ⋯ number ⋯ exact ">")) s c result t }
+    ensures { Reads 0 (opt (exact "<" ⋯ number ⋯ exact ">")) s.now c result t.old t.new }
 {
     if table::FAILED <= c {
         return c;
@@ -250,7 +252,7 @@ fn opt_index(s: &[u8], c: u64, t: &mut [u32]) -> u64
 // "BODY" section ["<" number ">"] SP nstring
 fn body_section_fields(s: &[u8], c: u64, t: &mut [u32]) -> u64
     requires { Stands 0 s.now c }
-    ensures { Reads 0 (any_case "BODY" ⋯ section ⋯ opt (exact "<" ⋯ number ⋯ exact ">") ⋯ sp ⋯ nstring) s c result t }
+    ensures { Reads 0 (any_case "BODY" ⋯ section ⋯ opt (exact "<" ⋯ number ⋯ exact ">") ⋯ sp ⋯ nstring) s.now c result t.old t.new }
 {
     let r = parser_core::tag_no_case(&*s, c, b"BODY");
     let r = section(&*s, r, t);
@@ -261,7 +263,7 @@ fn body_section_fields(s: &[u8], c: u64, t: &mut [u32]) -> u64
 // msg-att-static: "BODY" section ["<" number ">"] SP nstring
 pub fn msg_att_body_section(s: &[u8], c: u64, t: &mut [u32]) -> u64
     requires { Stands 0 s.now c }
-    ensures { Reads 0 msg_att_body_section s c result t }
+    ensures { Reads 0 msg_att_body_section s.now c result t.old t.new }
 {
     if table::FAILED <= c {
         return c;

@@ -1,5 +1,7 @@
 //! The fields of body structures that hold no body: the first half of imap-proto 0.17.0's src/rfc3501/body_structure.rs.
 
+#![tactic(auto)]
+
 ghost use Rattle.std.specs.Prelude.{◌≤◌, length};
 ghost use Rattle.grammar.specs.Kinds.{kind_pair, kind_disposition, kind_encoding};
 ghost use Rattle.grammar.specs.Scan.{tag_no_case};
@@ -12,7 +14,7 @@ ghost use Rattle.table.specs.Promise.{Stands, Reads};
 // string SP string
 fn param_fields(s: &[u8], c: u64, t: &mut [u32]) -> u64
     requires { Stands 0 s.now c }
-    ensures { Reads 0 (string ⋯ sp ⋯ string) s c result t }
+    ensures { Reads 0 (string ⋯ sp ⋯ string) s.now c result t.old t.new }
 {
     let r = parser_core::string(&*s, c, t);
     parser_core::sp_string(&*s, r, t)
@@ -21,7 +23,7 @@ fn param_fields(s: &[u8], c: u64, t: &mut [u32]) -> u64
 // One parameter: a pair.
 fn param(s: &[u8], c: u64, t: &mut [u32]) -> u64
     requires { Stands 0 s.now c }
-    ensures { Reads 0 (does (node kind_pair) (string ⋯ sp ⋯ string)) s c result t }
+    ensures { Reads 0 (does (node kind_pair) (string ⋯ sp ⋯ string)) s.now c result t.old t.new }
 {
     if table::FAILED <= c {
         return c;
@@ -34,7 +36,7 @@ fn param(s: &[u8], c: u64, t: &mut [u32]) -> u64
 // SP and a parameter.
 fn sp_param(s: &[u8], c: u64, t: &mut [u32]) -> u64
     requires { Stands 0 s.now c }
-    ensures { Reads 0 (sp ⋯ does (node kind_pair) (string ⋯ sp ⋯ string)) s c result t }
+    ensures { Reads 0 (sp ⋯ does (node kind_pair) (string ⋯ sp ⋯ string)) s.now c result t.old t.new }
 {
     let r = parser_core::char(&*s, c, b' ');
     if table::FAILED <= r {
@@ -46,7 +48,7 @@ fn sp_param(s: &[u8], c: u64, t: &mut [u32]) -> u64
 // Parameters, with a space between two of them.
 fn params(s: &[u8], c: u64, t: &mut [u32]) -> u64
     requires { Stands 0 s.now c }
-    ensures { Reads 0 (separated_list1 sp (does (node kind_pair) (string ⋯ sp ⋯ string))) s c result t }
+    ensures { Reads 0 (separated_list1 sp (does (node kind_pair) (string ⋯ sp ⋯ string))) s.now c result t.old t.new }
 {
     if table::FAILED <= c {
         return c;
@@ -71,7 +73,7 @@ fn params(s: &[u8], c: u64, t: &mut [u32]) -> u64
 // "(" string SP string *(SP string SP string) ")"
 fn some_params(s: &[u8], c: u64, t: &mut [u32]) -> u64
     requires { Stands 0 s.now c }
-    ensures { Reads 0 (parenthesized_nonempty_list (does (node kind_pair) (string ⋯ sp ⋯ string))) s c result t }
+    ensures { Reads 0 (parenthesized_nonempty_list (does (node kind_pair) (string ⋯ sp ⋯ string))) s.now c result t.old t.new }
 {
     let r = parser_core::char(&*s, c, b'(');
     let r = params(&*s, r, t);
@@ -82,7 +84,7 @@ fn some_params(s: &[u8], c: u64, t: &mut [u32]) -> u64
 // body-fld-param = "(" string SP string *(SP string SP string) ")" / nil
 pub fn body_param(s: &[u8], c: u64, t: &mut [u32]) -> u64
     requires { Stands 0 s.now c }
-    ensures { Reads 0 body_param s c result t }
+    ensures { Reads 0 body_param s.now c result t.old t.new }
 {
     if table::FAILED <= c {
         return c;
@@ -100,7 +102,7 @@ pub fn body_param(s: &[u8], c: u64, t: &mut [u32]) -> u64
 // "(" string SP body-fld-param ")"
 fn disposition_fields(s: &[u8], c: u64, t: &mut [u32]) -> u64
     requires { Stands 0 s.now c }
-    ensures { Reads 0 (opening ⋯ string ⋯ sp ⋯ body_param ⋯ closing) s c result t }
+    ensures { Reads 0 (opening ⋯ string ⋯ sp ⋯ body_param ⋯ closing) s.now c result t.old t.new }
 {
     let r = parser_core::char(&*s, c, b'(');
     let r = parser_core::string(&*s, r, t);
@@ -112,7 +114,7 @@ fn disposition_fields(s: &[u8], c: u64, t: &mut [u32]) -> u64
 // The same as a node.
 fn disposition(s: &[u8], c: u64, t: &mut [u32]) -> u64
     requires { Stands 0 s.now c }
-    ensures { Reads 0 (does (node kind_disposition) (opening ⋯ string ⋯ sp ⋯ body_param ⋯ closing)) s c result t }
+    ensures { Reads 0 (does (node kind_disposition) (opening ⋯ string ⋯ sp ⋯ body_param ⋯ closing)) s.now c result t.old t.new }
 {
     if table::FAILED <= c {
         return c;
@@ -125,7 +127,7 @@ fn disposition(s: &[u8], c: u64, t: &mut [u32]) -> u64
 // body-fld-dsp = "(" string SP body-fld-param ")" / nil
 pub fn body_disposition(s: &[u8], c: u64, t: &mut [u32]) -> u64
     requires { Stands 0 s.now c }
-    ensures { Reads 0 body_disposition s c result t }
+    ensures { Reads 0 body_disposition s.now c result t.old t.new }
 {
     if table::FAILED <= c {
         return c;
@@ -143,7 +145,7 @@ pub fn body_disposition(s: &[u8], c: u64, t: &mut [u32]) -> u64
 // One string, as a list of one.
 fn one_string(s: &[u8], c: u64, t: &mut [u32]) -> u64
     requires { Stands 0 s.now c }
-    ensures { Reads 0 (does listed string) s c result t }
+    ensures { Reads 0 (does listed string) s.now c result t.old t.new }
 {
     if table::FAILED <= c {
         return c;
@@ -159,7 +161,7 @@ fn one_string(s: &[u8], c: u64, t: &mut [u32]) -> u64
 // body-fld-lang = nstring / "(" string *(SP string) ")"
 pub fn body_lang(s: &[u8], c: u64, t: &mut [u32]) -> u64
     requires { Stands 0 s.now c }
-    ensures { Reads 0 body_lang s c result t }
+    ensures { Reads 0 body_lang s.now c result t.old t.new }
 {
     if table::FAILED <= c {
         return c;
@@ -179,7 +181,7 @@ pub fn body_lang(s: &[u8], c: u64, t: &mut [u32]) -> u64
 fn encoding_is(s: &[u8], c: u64, t: &mut [u32], name: &[u8], which: u32) -> u64
     requires stands { Stands 0 s.now c }
     requires in_bounds { 1 ≤ length name.now }
-    ensures { Reads 0 (leaf (tag_no_case name.now) ⋯ mark kind_encoding which) s c result t }
+    ensures { Reads 0 (leaf (tag_no_case name.now) ⋯ mark kind_encoding which) s.now c result t.old t.new }
 {
     let r = parser_core::tag_no_case(&*s, c, &*name);
     table::mark(&*s, r, t, grammar::KIND_ENCODING, which)
@@ -188,7 +190,7 @@ fn encoding_is(s: &[u8], c: u64, t: &mut [u32], name: &[u8], which: u32) -> u64
 // "BINARY" / "BASE64" / "QUOTED-PRINTABLE"
 fn long_encoding(s: &[u8], c: u64, t: &mut [u32]) -> u64
     requires { Stands 0 s.now c }
-    ensures { Reads 0 (encoding_is "BINARY" 3 or encoding_is "BASE64" 4 or encoding_is "QUOTED-PRINTABLE" 5) s c result t }
+    ensures { Reads 0 (encoding_is "BINARY" 3 or encoding_is "BASE64" 4 or encoding_is "QUOTED-PRINTABLE" 5) s.now c result t.old t.new }
 {
     let r = encoding_is(&*s, c, t, b"BINARY", 3);
     if r != table::REFUSED {
@@ -204,7 +206,7 @@ fn long_encoding(s: &[u8], c: u64, t: &mut [u32]) -> u64
 // "7BIT" / "8BIT" / "BINARY" / "BASE64" / "QUOTED-PRINTABLE"
 fn encoding_name(s: &[u8], c: u64, t: &mut [u32]) -> u64
     requires { Stands 0 s.now c }
-    ensures { Reads 0 (encoding_is "7BIT" 1 or encoding_is "8BIT" 2 or encoding_is "BINARY" 3 or encoding_is "BASE64" 4 or encoding_is "QUOTED-PRINTABLE" 5) s c result t }
+    ensures { Reads 0 (encoding_is "7BIT" 1 or encoding_is "8BIT" 2 or encoding_is "BINARY" 3 or encoding_is "BASE64" 4 or encoding_is "QUOTED-PRINTABLE" 5) s.now c result t.old t.new }
 {
     if table::FAILED <= c {
         return c;
@@ -223,7 +225,7 @@ fn encoding_name(s: &[u8], c: u64, t: &mut [u32]) -> u64
 // DQUOTE ("7BIT" / "8BIT" / "BINARY" / "BASE64"/ "QUOTED-PRINTABLE") DQUOTE
 fn known_encoding(s: &[u8], c: u64, t: &mut [u32]) -> u64
     requires { Stands 0 s.now c }
-    ensures { Reads 0 known_encoding s c result t }
+    ensures { Reads 0 known_encoding s.now c result t.old t.new }
 {
     let r = parser_core::char(&*s, c, b'"');
     let r = encoding_name(&*s, r, t);
@@ -233,7 +235,7 @@ fn known_encoding(s: &[u8], c: u64, t: &mut [u32]) -> u64
 // body-fld-enc = a known encoding / string
 fn body_encoding(s: &[u8], c: u64, t: &mut [u32]) -> u64
     requires { Stands 0 s.now c }
-    ensures { Reads 0 body_encoding s c result t }
+    ensures { Reads 0 body_encoding s.now c result t.old t.new }
 {
     if table::FAILED <= c {
         return c;
@@ -248,7 +250,7 @@ fn body_encoding(s: &[u8], c: u64, t: &mut [u32]) -> u64
 // body-fields = body-fld-param SP body-fld-id SP body-fld-desc SP body-fld-enc SP body-fld-octets
 pub fn body_fields(s: &[u8], c: u64, t: &mut [u32]) -> u64
     requires { Stands 0 s.now c }
-    ensures { Reads 0 body_fields s c result t }
+    ensures { Reads 0 body_fields s.now c result t.old t.new }
 {
     let r = body_param(&*s, c, t);
     let r = parser_core::sp_nstring(&*s, r, t);
@@ -262,7 +264,7 @@ pub fn body_fields(s: &[u8], c: u64, t: &mut [u32]) -> u64
 // Two fields that are not there.
 pub fn absent_2(s: &[u8], c: u64, t: &mut [u32]) -> u64
     requires { Stands 2 s.now c }
-    ensures { Reads 0 (absents 2) s c result t }
+    ensures { Reads 0 (absents 2) s.now c result t.old t.new }
 {
     let r = table::mark(&*s, c, t, grammar::KIND_ABSENT, 0);
     table::mark(&*s, r, t, grammar::KIND_ABSENT, 0)
@@ -271,7 +273,7 @@ pub fn absent_2(s: &[u8], c: u64, t: &mut [u32]) -> u64
 // Three.
 pub fn absent_3(s: &[u8], c: u64, t: &mut [u32]) -> u64
     requires { Stands 3 s.now c }
-    ensures { Reads 0 (absents 3) s c result t }
+    ensures { Reads 0 (absents 3) s.now c result t.old t.new }
 {
     let r = absent_2(&*s, c, t);
     table::mark(&*s, r, t, grammar::KIND_ABSENT, 0)
@@ -280,7 +282,7 @@ pub fn absent_3(s: &[u8], c: u64, t: &mut [u32]) -> u64
 // Four.
 pub fn absent_4(s: &[u8], c: u64, t: &mut [u32]) -> u64
     requires { Stands 4 s.now c }
-    ensures { Reads 0 (absents 4) s c result t }
+    ensures { Reads 0 (absents 4) s.now c result t.old t.new }
 {
     let r = absent_3(&*s, c, t);
     table::mark(&*s, r, t, grammar::KIND_ABSENT, 0)
@@ -289,7 +291,7 @@ pub fn absent_4(s: &[u8], c: u64, t: &mut [u32]) -> u64
 // Five.
 pub fn absent_5(s: &[u8], c: u64, t: &mut [u32]) -> u64
     requires { Stands 5 s.now c }
-    ensures { Reads 0 (absents 5) s c result t }
+    ensures { Reads 0 (absents 5) s.now c result t.old t.new }
 {
     let r = absent_4(&*s, c, t);
     table::mark(&*s, r, t, grammar::KIND_ABSENT, 0)

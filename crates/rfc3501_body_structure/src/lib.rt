@@ -1,6 +1,8 @@
 //! Bodies: imap-proto 0.17.0's src/rfc3501/body_structure.rs, `BodyStructure`. `left` is how many levels may still be opened: a body
 //! calls its message and multipart readers, which call the body reader one level deeper.
 
+#![tactic(auto)]
+
 ghost use Rattle.grammar.specs.Notation.{◌⋯◌, ◌or◌, any_case, sp, many1, paren_delimited};
 ghost use Rattle.grammar.specs.Grammar.{ref, a_body};
 ghost use Rattle.grammar.specs.Core.{number, string};
@@ -10,7 +12,7 @@ ghost use Rattle.table.specs.Promise.{Stands, Reads, Skips};
 // SP body-fields
 fn sp_body_fields(s: &[u8], c: u64, t: &mut [u32]) -> u64
     requires { Stands 0 s.now c }
-    ensures { Reads 0 (sp ⋯ body_fields) s c result t }
+    ensures { Reads 0 (sp ⋯ body_fields) s.now c result t.old t.new }
 {
     let r = parser_core::char(&*s, c, b' ');
     if table::FAILED <= r {
@@ -22,7 +24,7 @@ fn sp_body_fields(s: &[u8], c: u64, t: &mut [u32]) -> u64
 // media-text SP body-fields SP body-fld-lines
 fn text_lines(s: &[u8], c: u64, t: &mut [u32]) -> u64
     requires { Stands 0 s.now c }
-    ensures { Reads 0 (any_case "\"TEXT\"" ⋯ sp ⋯ string ⋯ sp ⋯ body_fields ⋯ sp ⋯ number) s c result t }
+    ensures { Reads 0 (any_case "\"TEXT\"" ⋯ sp ⋯ string ⋯ sp ⋯ body_fields ⋯ sp ⋯ number) s.now c result t.old t.new }
 {
     let r = parser_core::tag_no_case(&*s, c, b"\"TEXT\"");
     if table::FAILED <= r {
@@ -36,7 +38,7 @@ fn text_lines(s: &[u8], c: u64, t: &mut [u32]) -> u64
 // media-text SP body-fields SP body-fld-lines [SP body-ext-1part]
 fn text_fields(s: &[u8], c: u64, t: &mut [u32], left: usize) -> u64
     requires { Stands 0 s.now c }
-    ensures { Reads left (any_case "\"TEXT\"" ⋯ sp ⋯ string ⋯ sp ⋯ body_fields ⋯ sp ⋯ number ⋯ body_ext_1part) s c result t }
+    ensures { Reads left (any_case "\"TEXT\"" ⋯ sp ⋯ string ⋯ sp ⋯ body_fields ⋯ sp ⋯ number ⋯ body_ext_1part) s.now c result t.old t.new }
 {
     let r = text_lines(&*s, c, t);
     rfc3501_extension::body_ext_1part(&*s, r, t, left)
@@ -45,7 +47,7 @@ fn text_fields(s: &[u8], c: u64, t: &mut [u32], left: usize) -> u64
 // body-type-text
 fn body_type_text(s: &[u8], c: u64, t: &mut [u32], left: usize) -> u64
     requires { Stands 0 s.now c }
-    ensures { Reads left body_type_text s c result t }
+    ensures { Reads left body_type_text s.now c result t.old t.new }
 {
     if table::FAILED <= c {
         return c;
@@ -58,7 +60,7 @@ fn body_type_text(s: &[u8], c: u64, t: &mut [u32], left: usize) -> u64
 // media-basic SP body-fields
 fn basic_octets(s: &[u8], c: u64, t: &mut [u32]) -> u64
     requires { Stands 0 s.now c }
-    ensures { Reads 0 (string ⋯ sp ⋯ string ⋯ sp ⋯ body_fields) s c result t }
+    ensures { Reads 0 (string ⋯ sp ⋯ string ⋯ sp ⋯ body_fields) s.now c result t.old t.new }
 {
     let r = parser_core::string(&*s, c, t);
     let r = parser_core::sp_string(&*s, r, t);
@@ -68,7 +70,7 @@ fn basic_octets(s: &[u8], c: u64, t: &mut [u32]) -> u64
 // media-basic SP body-fields [SP body-ext-1part]
 fn basic_fields(s: &[u8], c: u64, t: &mut [u32], left: usize) -> u64
     requires { Stands 0 s.now c }
-    ensures { Reads left (string ⋯ sp ⋯ string ⋯ sp ⋯ body_fields ⋯ body_ext_1part) s c result t }
+    ensures { Reads left (string ⋯ sp ⋯ string ⋯ sp ⋯ body_fields ⋯ body_ext_1part) s.now c result t.old t.new }
 {
     let r = basic_octets(&*s, c, t);
     rfc3501_extension::body_ext_1part(&*s, r, t, left)
@@ -77,7 +79,7 @@ fn basic_fields(s: &[u8], c: u64, t: &mut [u32], left: usize) -> u64
 // body-type-basic
 fn body_type_basic(s: &[u8], c: u64, t: &mut [u32], left: usize) -> u64
     requires { Stands 0 s.now c }
-    ensures { Reads left body_type_basic s c result t }
+    ensures { Reads left body_type_basic s.now c result t.old t.new }
 {
     if table::FAILED <= c {
         return c;
@@ -90,7 +92,7 @@ fn body_type_basic(s: &[u8], c: u64, t: &mut [u32], left: usize) -> u64
 // media-message SP body-fields SP envelope
 fn message_fields(s: &[u8], c: u64, t: &mut [u32]) -> u64
     requires { Stands 0 s.now c }
-    ensures { Reads 0 message_fields s c result t }
+    ensures { Reads 0 message_fields s.now c result t.old t.new }
 {
     let r = parser_core::tag_no_case(&*s, c, b"\"MESSAGE\" \"RFC822\"");
     if table::FAILED <= r {
@@ -106,7 +108,7 @@ fn message_fields(s: &[u8], c: u64, t: &mut [u32]) -> u64
 // Where no level is left: a `(` is too deep, another byte fails.
 fn too_deep(s: &[u8], c: u64) -> u64
     requires { Stands 0 s.now c }
-    ensures { Skips (ref a_body) s c result }
+    ensures { Skips (ref a_body) s.now c result }
 {
     if table::FAILED <= c {
         return c;
@@ -122,7 +124,7 @@ fn too_deep(s: &[u8], c: u64) -> u64
 #[cycle(bodies_body_body_inside_body_type_message_body_type_multipart_body_types_message_body_multipart_fields_sp_body)]
 pub fn body(s: &[u8], c: u64, t: &mut [u32], left: usize) -> u64
     requires { Stands 0 s.now c }
-    ensures { Reads left (ref a_body) s c result t }
+    ensures { Reads left (ref a_body) s.now c result t.old t.new }
 {
     if table::FAILED <= c {
         return c;
@@ -138,7 +140,7 @@ pub fn body(s: &[u8], c: u64, t: &mut [u32], left: usize) -> u64
 #[cycle(bodies_body_body_inside_body_type_message_body_type_multipart_body_types_message_body_multipart_fields_sp_body)]
 fn body_inside(s: &[u8], c: u64, t: &mut [u32], left: usize) -> u64
     requires { Stands 0 s.now c }
-    ensures { Reads left (paren_delimited (body_type_text or body_type_message or body_type_basic or body_type_multipart)) s c result t }
+    ensures { Reads left (paren_delimited (body_type_text or body_type_message or body_type_basic or body_type_multipart)) s.now c result t.old t.new }
 {
     let r = parser_core::char(&*s, c, b'(');
     if table::FAILED <= r {
@@ -152,7 +154,7 @@ fn body_inside(s: &[u8], c: u64, t: &mut [u32], left: usize) -> u64
 #[cycle(bodies_body_body_inside_body_type_message_body_type_multipart_body_types_message_body_multipart_fields_sp_body)]
 fn body_types(s: &[u8], c: u64, t: &mut [u32], left: usize) -> u64
     requires { Stands 0 s.now c }
-    ensures { Reads left (body_type_text or body_type_message or body_type_basic or body_type_multipart) s c result t }
+    ensures { Reads left (body_type_text or body_type_message or body_type_basic or body_type_multipart) s.now c result t.old t.new }
 {
     if table::FAILED <= c {
         return c;
@@ -179,7 +181,7 @@ fn body_types(s: &[u8], c: u64, t: &mut [u32], left: usize) -> u64
 #[cycle(bodies_body_body_inside_body_type_message_body_type_multipart_body_types_message_body_multipart_fields_sp_body)]
 fn body_type_message(s: &[u8], c: u64, t: &mut [u32], left: usize) -> u64
     requires { Stands 0 s.now c }
-    ensures { Reads left body_type_message s c result t }
+    ensures { Reads left body_type_message s.now c result t.old t.new }
 {
     if table::FAILED <= c {
         return c;
@@ -193,7 +195,7 @@ fn body_type_message(s: &[u8], c: u64, t: &mut [u32], left: usize) -> u64
 #[cycle(bodies_body_body_inside_body_type_message_body_type_multipart_body_types_message_body_multipart_fields_sp_body)]
 fn message_body(s: &[u8], c: u64, t: &mut [u32], left: usize) -> u64
     requires { Stands 0 s.now c }
-    ensures { Reads left (message_fields ⋯ sp ⋯ ref a_body ⋯ sp ⋯ number ⋯ body_ext_1part) s c result t }
+    ensures { Reads left (message_fields ⋯ sp ⋯ ref a_body ⋯ sp ⋯ number ⋯ body_ext_1part) s.now c result t.old t.new }
 {
     let r = message_fields(&*s, c, t);
     if table::FAILED <= r {
@@ -208,7 +210,7 @@ fn message_body(s: &[u8], c: u64, t: &mut [u32], left: usize) -> u64
 #[cycle(bodies_body_body_inside_body_type_message_body_type_multipart_body_types_message_body_multipart_fields_sp_body)]
 fn sp_body(s: &[u8], c: u64, t: &mut [u32], left: usize) -> u64
     requires { Stands 0 s.now c }
-    ensures { Reads left (sp ⋯ ref a_body) s c result t }
+    ensures { Reads left (sp ⋯ ref a_body) s.now c result t.old t.new }
 {
     let r = parser_core::char(&*s, c, b' ');
     if table::FAILED <= r {
@@ -221,7 +223,7 @@ fn sp_body(s: &[u8], c: u64, t: &mut [u32], left: usize) -> u64
 #[cycle(bodies_body_body_inside_body_type_message_body_type_multipart_body_types_message_body_multipart_fields_sp_body)]
 fn body_type_multipart(s: &[u8], c: u64, t: &mut [u32], left: usize) -> u64
     requires { Stands 0 s.now c }
-    ensures { Reads left body_type_multipart s c result t }
+    ensures { Reads left body_type_multipart s.now c result t.old t.new }
 {
     if table::FAILED <= c {
         return c;
@@ -235,7 +237,7 @@ fn body_type_multipart(s: &[u8], c: u64, t: &mut [u32], left: usize) -> u64
 #[cycle(bodies_body_body_inside_body_type_message_body_type_multipart_body_types_message_body_multipart_fields_sp_body)]
 fn multipart_fields(s: &[u8], c: u64, t: &mut [u32], left: usize) -> u64
     requires { Stands 0 s.now c }
-    ensures { Reads left (many1 (ref a_body) ⋯ sp ⋯ string ⋯ body_ext_mpart) s c result t }
+    ensures { Reads left (many1 (ref a_body) ⋯ sp ⋯ string ⋯ body_ext_mpart) s.now c result t.old t.new }
 {
     let r = bodies(&*s, c, t, left);
     let r = parser_core::sp_string(&*s, r, t);
@@ -246,7 +248,7 @@ fn multipart_fields(s: &[u8], c: u64, t: &mut [u32], left: usize) -> u64
 #[cycle(bodies_body_body_inside_body_type_message_body_type_multipart_body_types_message_body_multipart_fields_sp_body)]
 fn bodies(s: &[u8], c: u64, t: &mut [u32], left: usize) -> u64
     requires { Stands 0 s.now c }
-    ensures { Reads left (many1 (ref a_body)) s c result t }
+    ensures { Reads left (many1 (ref a_body)) s.now c result t.old t.new }
 {
     if table::FAILED <= c {
         return c;
@@ -271,7 +273,7 @@ fn bodies(s: &[u8], c: u64, t: &mut [u32], left: usize) -> u64
 // msg-att-static: "BODYSTRUCTURE" SP body
 pub fn msg_att_body_structure(s: &[u8], c: u64, t: &mut [u32], left: usize) -> u64
     requires { Stands 0 s.now c }
-    ensures { Reads left msg_att_body_structure s c result t }
+    ensures { Reads left msg_att_body_structure s.now c result t.old t.new }
 {
     let r = parser_core::tag_no_case(&*s, c, b"BODYSTRUCTURE ");
     body(&*s, r, t, left)

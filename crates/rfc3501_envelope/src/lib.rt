@@ -1,6 +1,8 @@
 //! Envelopes and addresses: `Address`, `opt_addresses`, `Envelope` and `msg_att_envelope` of imap-proto 0.17.0's
 //! src/rfc3501/mod.rs.
 
+#![tactic(auto)]
+
 ghost use Rattle.grammar.specs.Notation.{◌⋯◌, sp, opening, closing, skip_opt, many1, paren_delimited};
 ghost use Rattle.grammar.specs.Core.{nstring};
 ghost use Rattle.grammar.specs.Envelope.{address, opt_addresses, env_origin, env_recipients, env_references, envelope, msg_att_envelope};
@@ -9,7 +11,7 @@ ghost use Rattle.table.specs.Promise.{Stands, Reads};
 // "(" addr-name SP addr-adl SP addr-mailbox SP addr-host ")"
 fn address_fields(s: &[u8], c: u64, t: &mut [u32]) -> u64
     requires { Stands 0 s.now c }
-    ensures { Reads 0 (opening ⋯ nstring ⋯ sp ⋯ nstring ⋯ sp ⋯ nstring ⋯ sp ⋯ nstring ⋯ closing) s c result t }
+    ensures { Reads 0 (opening ⋯ nstring ⋯ sp ⋯ nstring ⋯ sp ⋯ nstring ⋯ sp ⋯ nstring ⋯ closing) s.now c result t.old t.new }
 {
     let r = parser_core::char(&*s, c, b'(');
     if table::FAILED <= r {
@@ -25,7 +27,7 @@ fn address_fields(s: &[u8], c: u64, t: &mut [u32]) -> u64
 // address = "(" addr-name SP addr-adl SP addr-mailbox SP addr-host ")"
 fn address(s: &[u8], c: u64, t: &mut [u32]) -> u64
     requires { Stands 0 s.now c }
-    ensures { Reads 0 address s c result t }
+    ensures { Reads 0 address s.now c result t.old t.new }
 {
     if table::FAILED <= c {
         return c;
@@ -38,7 +40,7 @@ fn address(s: &[u8], c: u64, t: &mut [u32]) -> u64
 // An address, and at most one space after it.
 fn address_space(s: &[u8], c: u64, t: &mut [u32]) -> u64
     requires { Stands 0 s.now c }
-    ensures { Reads 0 (address ⋯ skip_opt sp) s c result t }
+    ensures { Reads 0 (address ⋯ skip_opt sp) s.now c result t.old t.new }
 {
     let r = address(&*s, c, t);
     parser_core::opt_space(&*s, r)
@@ -47,7 +49,7 @@ fn address_space(s: &[u8], c: u64, t: &mut [u32]) -> u64
 // 1*address
 fn addresses(s: &[u8], c: u64, t: &mut [u32]) -> u64
     requires { Stands 0 s.now c }
-    ensures { Reads 0 (many1 (address ⋯ skip_opt sp)) s c result t }
+    ensures { Reads 0 (many1 (address ⋯ skip_opt sp)) s.now c result t.old t.new }
 {
     if table::FAILED <= c {
         return c;
@@ -72,7 +74,7 @@ fn addresses(s: &[u8], c: u64, t: &mut [u32]) -> u64
 // "(" 1*address ")"
 fn some_addresses(s: &[u8], c: u64, t: &mut [u32]) -> u64
     requires { Stands 0 s.now c }
-    ensures { Reads 0 (paren_delimited (many1 (address ⋯ skip_opt sp))) s c result t }
+    ensures { Reads 0 (paren_delimited (many1 (address ⋯ skip_opt sp))) s.now c result t.old t.new }
 {
     let r = parser_core::char(&*s, c, b'(');
     let r = addresses(&*s, r, t);
@@ -82,7 +84,7 @@ fn some_addresses(s: &[u8], c: u64, t: &mut [u32]) -> u64
 // "(" 1*address ")" / nil
 fn opt_addresses(s: &[u8], c: u64, t: &mut [u32]) -> u64
     requires { Stands 0 s.now c }
-    ensures { Reads 0 opt_addresses s c result t }
+    ensures { Reads 0 opt_addresses s.now c result t.old t.new }
 {
     if table::FAILED <= c {
         return c;
@@ -100,7 +102,7 @@ fn opt_addresses(s: &[u8], c: u64, t: &mut [u32]) -> u64
 // SP opt-addresses
 fn sp_opt_addresses(s: &[u8], c: u64, t: &mut [u32]) -> u64
     requires { Stands 0 s.now c }
-    ensures { Reads 0 (sp ⋯ opt_addresses) s c result t }
+    ensures { Reads 0 (sp ⋯ opt_addresses) s.now c result t.old t.new }
 {
     let r = parser_core::char(&*s, c, b' ');
     if table::FAILED <= r {
@@ -112,7 +114,7 @@ fn sp_opt_addresses(s: &[u8], c: u64, t: &mut [u32]) -> u64
 // env-date SP env-subject SP env-from SP env-sender
 fn env_origin(s: &[u8], c: u64, t: &mut [u32]) -> u64
     requires { Stands 0 s.now c }
-    ensures { Reads 0 env_origin s c result t }
+    ensures { Reads 0 env_origin s.now c result t.old t.new }
 {
     let r = parser_core::nstring(&*s, c, t);
     let r = parser_core::sp_nstring(&*s, r, t);
@@ -123,7 +125,7 @@ fn env_origin(s: &[u8], c: u64, t: &mut [u32]) -> u64
 // env-reply-to SP env-to SP env-cc SP env-bcc
 fn env_recipients(s: &[u8], c: u64, t: &mut [u32]) -> u64
     requires { Stands 0 s.now c }
-    ensures { Reads 0 env_recipients s c result t }
+    ensures { Reads 0 env_recipients s.now c result t.old t.new }
 {
     let r = opt_addresses(&*s, c, t);
     let r = sp_opt_addresses(&*s, r, t);
@@ -134,7 +136,7 @@ fn env_recipients(s: &[u8], c: u64, t: &mut [u32]) -> u64
 // env-in-reply-to SP env-message-id
 fn env_references(s: &[u8], c: u64, t: &mut [u32]) -> u64
     requires { Stands 0 s.now c }
-    ensures { Reads 0 env_references s c result t }
+    ensures { Reads 0 env_references s.now c result t.old t.new }
 {
     let r = parser_core::nstring(&*s, c, t);
     parser_core::sp_nstring(&*s, r, t)
@@ -143,7 +145,7 @@ fn env_references(s: &[u8], c: u64, t: &mut [u32]) -> u64
 // The fields before env-in-reply-to, behind the opening parenthesis.
 fn envelope_head(s: &[u8], c: u64, t: &mut [u32]) -> u64
     requires { Stands 0 s.now c }
-    ensures { Reads 0 (opening ⋯ env_origin ⋯ sp ⋯ env_recipients) s c result t }
+    ensures { Reads 0 (opening ⋯ env_origin ⋯ sp ⋯ env_recipients) s.now c result t.old t.new }
 {
     let r = parser_core::char(&*s, c, b'(');
     let r = env_origin(&*s, r, t);
@@ -154,7 +156,7 @@ fn envelope_head(s: &[u8], c: u64, t: &mut [u32]) -> u64
 // The ten fields, in parentheses.
 fn envelope_fields(s: &[u8], c: u64, t: &mut [u32]) -> u64
     requires { Stands 0 s.now c }
-    ensures { Reads 0 (opening ⋯ env_origin ⋯ sp ⋯ env_recipients ⋯ sp ⋯ env_references ⋯ closing) s c result t }
+    ensures { Reads 0 (opening ⋯ env_origin ⋯ sp ⋯ env_recipients ⋯ sp ⋯ env_references ⋯ closing) s.now c result t.old t.new }
 {
     let r = envelope_head(&*s, c, t);
     let r = parser_core::char(&*s, r, b' ');
@@ -166,7 +168,7 @@ fn envelope_fields(s: &[u8], c: u64, t: &mut [u32]) -> u64
 // env-in-reply-to SP env-message-id ")"
 pub fn envelope(s: &[u8], c: u64, t: &mut [u32]) -> u64
     requires { Stands 0 s.now c }
-    ensures { Reads 0 envelope s c result t }
+    ensures { Reads 0 envelope s.now c result t.old t.new }
 {
     if table::FAILED <= c {
         return c;
@@ -179,7 +181,7 @@ pub fn envelope(s: &[u8], c: u64, t: &mut [u32]) -> u64
 // msg-att-static: "ENVELOPE" SP envelope
 pub fn msg_att_envelope(s: &[u8], c: u64, t: &mut [u32]) -> u64
     requires { Stands 0 s.now c }
-    ensures { Reads 0 msg_att_envelope s c result t }
+    ensures { Reads 0 msg_att_envelope s.now c result t.old t.new }
 {
     let r = parser_core::tag_no_case(&*s, c, b"ENVELOPE ");
     envelope(&*s, r, t)

@@ -1,6 +1,8 @@
 //! Body extensions and the tails of bodies: imap-proto 0.17.0's src/rfc3501/body_structure.rs, `BodyExtension`, `BodyExt1Part`
 //! and `BodyExtMPart`. `left` is how many levels may still be opened.
 
+#![tactic(auto)]
+
 ghost use Rattle.grammar.specs.Notation.{◌⋯◌, sp, separated_list1};
 ghost use Rattle.grammar.specs.Core.{nstring};
 ghost use Rattle.grammar.specs.BodyStructure.{body_extension, extension_list, body_param, body_disposition, body_lang, body_ext_1part, body_ext_mpart};
@@ -13,7 +15,7 @@ ghost use Rattle.table.specs.Promise.{Stands, Reads};
 #[cycle(extension_extension_list_extensions_sp_extension)]
 fn extension(s: &[u8], c: u64, t: &mut [u32], left: usize) -> u64
     requires { Stands 0 s.now c }
-    ensures { Reads left body_extension s c result t }
+    ensures { Reads left body_extension s.now c result t.old t.new }
 {
     if table::FAILED <= c {
         return c;
@@ -39,7 +41,7 @@ fn extension(s: &[u8], c: u64, t: &mut [u32], left: usize) -> u64
 #[cycle(extension_extension_list_extensions_sp_extension)]
 fn sp_extension(s: &[u8], c: u64, t: &mut [u32], left: usize) -> u64
     requires { Stands 0 s.now c }
-    ensures { Reads left (sp ⋯ body_extension) s c result t }
+    ensures { Reads left (sp ⋯ body_extension) s.now c result t.old t.new }
 {
     let r = parser_core::char(&*s, c, b' ');
     if table::FAILED <= r {
@@ -52,7 +54,7 @@ fn sp_extension(s: &[u8], c: u64, t: &mut [u32], left: usize) -> u64
 #[cycle(extension_extension_list_extensions_sp_extension)]
 fn extension_list(s: &[u8], c: u64, t: &mut [u32], left: usize) -> u64
     requires { Stands 0 s.now c }
-    ensures { Reads left extension_list s c result t }
+    ensures { Reads left extension_list s.now c result t.old t.new }
 {
     let r = parser_core::char(&*s, c, b'(');
     if table::FAILED <= r {
@@ -67,7 +69,7 @@ fn extension_list(s: &[u8], c: u64, t: &mut [u32], left: usize) -> u64
 #[cycle(extension_extension_list_extensions_sp_extension)]
 fn extensions(s: &[u8], c: u64, t: &mut [u32], left: usize) -> u64
     requires { Stands 0 s.now c }
-    ensures { Reads left (separated_list1 sp body_extension) s c result t }
+    ensures { Reads left (separated_list1 sp body_extension) s.now c result t.old t.new }
 {
     if table::FAILED <= c {
         return c;
@@ -94,7 +96,7 @@ fn extensions(s: &[u8], c: u64, t: &mut [u32], left: usize) -> u64
 // [SP body-extension]
 fn from_extension(s: &[u8], c: u64, t: &mut [u32], left: usize) -> u64
     requires { Stands 1 s.now c }
-    ensures { Reads left from_extension s c result t }
+    ensures { Reads left from_extension s.now c result t.old t.new }
 {
     if table::FAILED <= c {
         return c;
@@ -109,7 +111,7 @@ fn from_extension(s: &[u8], c: u64, t: &mut [u32], left: usize) -> u64
 // SP body-fld-loc [SP body-extension]
 fn loc_tail(s: &[u8], c: u64, t: &mut [u32], left: usize) -> u64
     requires { Stands 0 s.now c }
-    ensures { Reads left (sp ⋯ nstring ⋯ from_extension) s c result t }
+    ensures { Reads left (sp ⋯ nstring ⋯ from_extension) s.now c result t.old t.new }
 {
     let r = parser_core::sp_nstring(&*s, c, t);
     from_extension(&*s, r, t, left)
@@ -118,7 +120,7 @@ fn loc_tail(s: &[u8], c: u64, t: &mut [u32], left: usize) -> u64
 // [SP body-fld-loc [SP body-extension]]
 fn from_loc(s: &[u8], c: u64, t: &mut [u32], left: usize) -> u64
     requires { Stands 2 s.now c }
-    ensures { Reads left from_loc s c result t }
+    ensures { Reads left from_loc s.now c result t.old t.new }
 {
     if table::FAILED <= c {
         return c;
@@ -133,7 +135,7 @@ fn from_loc(s: &[u8], c: u64, t: &mut [u32], left: usize) -> u64
 // SP body-fld-lang ..
 fn lang_tail(s: &[u8], c: u64, t: &mut [u32], left: usize) -> u64
     requires { Stands 0 s.now c }
-    ensures { Reads left (sp ⋯ body_lang ⋯ from_loc) s c result t }
+    ensures { Reads left (sp ⋯ body_lang ⋯ from_loc) s.now c result t.old t.new }
 {
     let r = parser_core::char(&*s, c, b' ');
     let r = rfc3501_body_fields::body_lang(&*s, r, t);
@@ -143,7 +145,7 @@ fn lang_tail(s: &[u8], c: u64, t: &mut [u32], left: usize) -> u64
 // [SP body-fld-lang ..]
 fn from_lang(s: &[u8], c: u64, t: &mut [u32], left: usize) -> u64
     requires { Stands 3 s.now c }
-    ensures { Reads left from_lang s c result t }
+    ensures { Reads left from_lang s.now c result t.old t.new }
 {
     if table::FAILED <= c {
         return c;
@@ -158,7 +160,7 @@ fn from_lang(s: &[u8], c: u64, t: &mut [u32], left: usize) -> u64
 // SP body-fld-dsp ..
 fn dsp_tail(s: &[u8], c: u64, t: &mut [u32], left: usize) -> u64
     requires { Stands 0 s.now c }
-    ensures { Reads left (sp ⋯ body_disposition ⋯ from_lang) s c result t }
+    ensures { Reads left (sp ⋯ body_disposition ⋯ from_lang) s.now c result t.old t.new }
 {
     let r = parser_core::char(&*s, c, b' ');
     let r = rfc3501_body_fields::body_disposition(&*s, r, t);
@@ -168,7 +170,7 @@ fn dsp_tail(s: &[u8], c: u64, t: &mut [u32], left: usize) -> u64
 // [SP body-fld-dsp ..]
 fn from_dsp(s: &[u8], c: u64, t: &mut [u32], left: usize) -> u64
     requires { Stands 4 s.now c }
-    ensures { Reads left from_dsp s c result t }
+    ensures { Reads left from_dsp s.now c result t.old t.new }
 {
     if table::FAILED <= c {
         return c;
@@ -183,7 +185,7 @@ fn from_dsp(s: &[u8], c: u64, t: &mut [u32], left: usize) -> u64
 // SP body-fld-md5 ..
 fn md5_tail(s: &[u8], c: u64, t: &mut [u32], left: usize) -> u64
     requires { Stands 0 s.now c }
-    ensures { Reads left (sp ⋯ nstring ⋯ from_dsp) s c result t }
+    ensures { Reads left (sp ⋯ nstring ⋯ from_dsp) s.now c result t.old t.new }
 {
     let r = parser_core::sp_nstring(&*s, c, t);
     from_dsp(&*s, r, t, left)
@@ -192,7 +194,7 @@ fn md5_tail(s: &[u8], c: u64, t: &mut [u32], left: usize) -> u64
 // [SP body-ext-1part]
 pub fn body_ext_1part(s: &[u8], c: u64, t: &mut [u32], left: usize) -> u64
     requires { Stands 5 s.now c }
-    ensures { Reads left body_ext_1part s c result t }
+    ensures { Reads left body_ext_1part s.now c result t.old t.new }
 {
     if table::FAILED <= c {
         return c;
@@ -207,7 +209,7 @@ pub fn body_ext_1part(s: &[u8], c: u64, t: &mut [u32], left: usize) -> u64
 // SP body-fld-param ..
 fn param_tail(s: &[u8], c: u64, t: &mut [u32], left: usize) -> u64
     requires { Stands 0 s.now c }
-    ensures { Reads left (sp ⋯ body_param ⋯ from_dsp) s c result t }
+    ensures { Reads left (sp ⋯ body_param ⋯ from_dsp) s.now c result t.old t.new }
 {
     let r = parser_core::char(&*s, c, b' ');
     let r = rfc3501_body_fields::body_param(&*s, r, t);
@@ -217,7 +219,7 @@ fn param_tail(s: &[u8], c: u64, t: &mut [u32], left: usize) -> u64
 // [SP body-ext-mpart]
 pub fn body_ext_mpart(s: &[u8], c: u64, t: &mut [u32], left: usize) -> u64
     requires { Stands 5 s.now c }
-    ensures { Reads left body_ext_mpart s c result t }
+    ensures { Reads left body_ext_mpart s.now c result t.old t.new }
 {
     if table::FAILED <= c {
         return c;

@@ -1,5 +1,7 @@
 //! Uid sets and the response codes of UIDPLUS: imap-proto 0.17.0's src/rfc4315.rs.
 
+#![tactic(auto)]
+
 ghost use Rattle.std.specs.Prelude.{◌≤◌, length};
 ghost use Rattle.grammar.specs.Scan.{tag_no_case};
 ghost use Rattle.grammar.specs.Grammar.{leaf};
@@ -11,7 +13,7 @@ ghost use Rattle.table.specs.Promise.{Stands, Reads};
 // uniqueid / uid-range: 2:4 and 4:2 are equivalent, the smaller number comes first
 fn uid_set_member(s: &[u8], c: u64, t: &mut [u32]) -> u64
     requires { Stands 0 s.now c }
-    ensures { Reads 0 uid_set_member s c result t }
+    ensures { Reads 0 uid_set_member s.now c result t.old t.new }
 {
     if table::FAILED <= c {
         return c;
@@ -43,7 +45,7 @@ fn uid_set_member(s: &[u8], c: u64, t: &mut [u32]) -> u64
 // "," uid-set-member
 fn comma_member(s: &[u8], c: u64, t: &mut [u32]) -> u64
     requires { Stands 0 s.now c }
-    ensures { Reads 0 (exact "," ⋯ uid_set_member) s c result t }
+    ensures { Reads 0 (exact "," ⋯ uid_set_member) s.now c result t.old t.new }
 {
     let r = parser_core::char(&*s, c, b',');
     if table::FAILED <= r {
@@ -55,7 +57,7 @@ fn comma_member(s: &[u8], c: u64, t: &mut [u32]) -> u64
 // uid-set = (uniqueid / uid-range) *("," uid-set)
 pub fn uid_set(s: &[u8], c: u64, t: &mut [u32]) -> u64
     requires { Stands 0 s.now c }
-    ensures { Reads 0 uid_set s c result t }
+    ensures { Reads 0 uid_set s.now c result t.old t.new }
 {
     if table::FAILED <= c {
         return c;
@@ -80,7 +82,7 @@ pub fn uid_set(s: &[u8], c: u64, t: &mut [u32]) -> u64
 // SP uid-set
 fn sp_uid_set(s: &[u8], c: u64, t: &mut [u32]) -> u64
     requires { Stands 0 s.now c }
-    ensures { Reads 0 (sp ⋯ uid_set) s c result t }
+    ensures { Reads 0 (sp ⋯ uid_set) s.now c result t.old t.new }
 {
     let r = parser_core::char(&*s, c, b' ');
     uid_set(&*s, r, t)
@@ -90,7 +92,7 @@ fn sp_uid_set(s: &[u8], c: u64, t: &mut [u32]) -> u64
 fn named_uids(s: &[u8], c: u64, t: &mut [u32], name: &[u8]) -> u64
     requires stands { Stands 0 s.now c }
     requires in_bounds { 1 ≤ length name.now }
-    ensures { Reads 0 (leaf (tag_no_case name.now) ⋯ number ⋯ sp ⋯ uid_set) s c result t }
+    ensures { Reads 0 (leaf (tag_no_case name.now) ⋯ number ⋯ sp ⋯ uid_set) s.now c result t.old t.new }
 {
     let r = parser_core::tag_no_case(&*s, c, name);
     let r = parser_core::number(&*s, r, t);
@@ -100,7 +102,7 @@ fn named_uids(s: &[u8], c: u64, t: &mut [u32], name: &[u8]) -> u64
 // resp-code-apnd = "APPENDUID" SP nz-number SP append-uid
 pub fn resp_text_code_append_uid(s: &[u8], c: u64, t: &mut [u32]) -> u64
     requires { Stands 0 s.now c }
-    ensures { Reads 0 resp_text_code_append_uid s c result t }
+    ensures { Reads 0 resp_text_code_append_uid s.now c result t.old t.new }
 {
     if table::FAILED <= c {
         return c;
@@ -113,7 +115,7 @@ pub fn resp_text_code_append_uid(s: &[u8], c: u64, t: &mut [u32]) -> u64
 // "COPYUID" SP nz-number SP uid-set SP uid-set
 fn copy_uid_fields(s: &[u8], c: u64, t: &mut [u32]) -> u64
     requires { Stands 0 s.now c }
-    ensures { Reads 0 (any_case "COPYUID " ⋯ number ⋯ sp ⋯ uid_set ⋯ sp ⋯ uid_set) s c result t }
+    ensures { Reads 0 (any_case "COPYUID " ⋯ number ⋯ sp ⋯ uid_set ⋯ sp ⋯ uid_set) s.now c result t.old t.new }
 {
     let r = named_uids(&*s, c, t, b"COPYUID ");
     sp_uid_set(&*s, r, t)
@@ -122,7 +124,7 @@ fn copy_uid_fields(s: &[u8], c: u64, t: &mut [u32]) -> u64
 // resp-code-copy = "COPYUID" SP nz-number SP uid-set SP uid-set
 pub fn resp_text_code_copy_uid(s: &[u8], c: u64, t: &mut [u32]) -> u64
     requires { Stands 0 s.now c }
-    ensures { Reads 0 resp_text_code_copy_uid s c result t }
+    ensures { Reads 0 resp_text_code_copy_uid s.now c result t.old t.new }
 {
     if table::FAILED <= c {
         return c;
@@ -135,7 +137,7 @@ pub fn resp_text_code_copy_uid(s: &[u8], c: u64, t: &mut [u32]) -> u64
 // resp-text-code =/ "UIDNOTSTICKY"
 pub fn resp_text_code_uid_not_sticky(s: &[u8], c: u64, t: &mut [u32]) -> u64
     requires { Stands 0 s.now c }
-    ensures { Reads 0 resp_text_code_uid_not_sticky s c result t }
+    ensures { Reads 0 resp_text_code_uid_not_sticky s.now c result t.old t.new }
 {
     if table::FAILED <= c {
         return c;

@@ -1,12 +1,14 @@
 //! Mod-sequences: imap-proto 0.17.0's src/rfc4551.rs, without STATUS.
 
+#![tactic(auto)]
+
 ghost use Rattle.grammar.specs.Rfc4551.{resp_text_code_highest_mod_seq, msg_att_mod_seq};
 ghost use Rattle.table.specs.Promise.{Stands, Reads};
 
 // resp-text-code =/ "HIGHESTMODSEQ" SP mod-sequence-value
 pub fn resp_text_code_highest_mod_seq(s: &[u8], c: u64, t: &mut [u32]) -> u64
     requires { Stands 0 s.now c }
-    ensures { Reads 0 resp_text_code_highest_mod_seq s c result t }
+    ensures { Reads 0 resp_text_code_highest_mod_seq s.now c result t.old t.new }
 {
     let r = parser_core::tag_no_case(&*s, c, b"HIGHESTMODSEQ ");
     parser_core::number_64(&*s, r, t)
@@ -15,7 +17,7 @@ pub fn resp_text_code_highest_mod_seq(s: &[u8], c: u64, t: &mut [u32]) -> u64
 // fetch-mod-resp = "MODSEQ" SP "(" permsg-modsequence ")"
 pub fn msg_att_mod_seq(s: &[u8], c: u64, t: &mut [u32]) -> u64
     requires { Stands 0 s.now c }
-    ensures { Reads 0 msg_att_mod_seq s c result t }
+    ensures { Reads 0 msg_att_mod_seq s.now c result t.old t.new }
 {
     let r = parser_core::tag_no_case(&*s, c, b"MODSEQ ");
     let r = parser_core::char(&*s, r, b'(');

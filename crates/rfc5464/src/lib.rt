@@ -1,6 +1,8 @@
 //! METADATA's entry names and responses: imap-proto 0.17.0's src/rfc5464.rs without its response codes.
 //! A name is checked in stages, each at a place in the name.
 
+#![tactic(auto)]
+
 ghost use Rattle.std.specs.Prelude.{◌≡◌, ◌≤◌, length, drop};
 ghost use Rattle.grammar.specs.EntryName.{is_entry_component_char, check_entry_name};
 ghost use Rattle.grammar.specs.Notation.{sp, ◌⋯◌, separated_list1, parenthesized_nonempty_list};
@@ -193,7 +195,7 @@ fn check_astring(s: &[u8], at: usize, next: usize) -> bool
 // An astring whose content is an entry name; its node is written before the check.
 pub fn entry_name(s: &[u8], c: u64, t: &mut [u32]) -> u64
     requires { Stands 0 s.now c }
-    ensures { Reads 0 entry_name s c result t }
+    ensures { Reads 0 entry_name s.now c result t.old t.new }
 {
     let r = parser_core::astring(&*s, c, t);
     if table::FAILED <= r {
@@ -210,7 +212,7 @@ pub fn entry_name(s: &[u8], c: u64, t: &mut [u32]) -> u64
 // SP entry
 fn sp_entry_name(s: &[u8], c: u64, t: &mut [u32]) -> u64
     requires { Stands 0 s.now c }
-    ensures { Reads 0 (sp ⋯ entry_name) s c result t }
+    ensures { Reads 0 (sp ⋯ entry_name) s.now c result t.old t.new }
 {
     let r = parser_core::char(&*s, c, b' ');
     if table::FAILED <= r {
@@ -222,7 +224,7 @@ fn sp_entry_name(s: &[u8], c: u64, t: &mut [u32]) -> u64
 // entry SP value
 fn name_and_value(s: &[u8], c: u64, t: &mut [u32]) -> u64
     requires { Stands 0 s.now c }
-    ensures { Reads 0 (entry_name ⋯ sp ⋯ nstring) s c result t }
+    ensures { Reads 0 (entry_name ⋯ sp ⋯ nstring) s.now c result t.old t.new }
 {
     let r = entry_name(&*s, c, t);
     parser_core::sp_nstring(&*s, r, t)
@@ -231,7 +233,7 @@ fn name_and_value(s: &[u8], c: u64, t: &mut [u32]) -> u64
 // entry_value = entry SP value
 fn entry_value(s: &[u8], c: u64, t: &mut [u32]) -> u64
     requires { Stands 0 s.now c }
-    ensures { Reads 0 entry_value s c result t }
+    ensures { Reads 0 entry_value s.now c result t.old t.new }
 {
     if table::FAILED <= c {
         return c;
@@ -244,7 +246,7 @@ fn entry_value(s: &[u8], c: u64, t: &mut [u32]) -> u64
 // SP entry_value
 fn sp_entry_value(s: &[u8], c: u64, t: &mut [u32]) -> u64
     requires { Stands 0 s.now c }
-    ensures { Reads 0 (sp ⋯ entry_value) s c result t }
+    ensures { Reads 0 (sp ⋯ entry_value) s.now c result t.old t.new }
 {
     let r = parser_core::char(&*s, c, b' ');
     if table::FAILED <= r {
@@ -256,7 +258,7 @@ fn sp_entry_value(s: &[u8], c: u64, t: &mut [u32]) -> u64
 // entry_value *(SP entry_value)
 fn entry_values(s: &[u8], c: u64, t: &mut [u32]) -> u64
     requires { Stands 0 s.now c }
-    ensures { Reads 0 (separated_list1 sp entry_value) s c result t }
+    ensures { Reads 0 (separated_list1 sp entry_value) s.now c result t.old t.new }
 {
     if table::FAILED <= c {
         return c;
@@ -281,7 +283,7 @@ fn entry_values(s: &[u8], c: u64, t: &mut [u32]) -> u64
 // entry-values = "(" entry_value *(SP entry_value) ")"; any run of blanks before ")"
 fn keyval_list(s: &[u8], c: u64, t: &mut [u32]) -> u64
     requires { Stands 0 s.now c }
-    ensures { Reads 0 (parenthesized_nonempty_list entry_value) s c result t }
+    ensures { Reads 0 (parenthesized_nonempty_list entry_value) s.now c result t.old t.new }
 {
     let r = parser_core::char(&*s, c, b'(');
     let r = entry_values(&*s, r, t);
@@ -294,7 +296,7 @@ fn keyval_list(s: &[u8], c: u64, t: &mut [u32]) -> u64
 // entry *(SP entry)
 fn entry_names(s: &[u8], c: u64, t: &mut [u32]) -> u64
     requires { Stands 0 s.now c }
-    ensures { Reads 0 (separated_list1 sp entry_name) s c result t }
+    ensures { Reads 0 (separated_list1 sp entry_name) s.now c result t.old t.new }
 {
     if table::FAILED <= c {
         return c;
@@ -319,7 +321,7 @@ fn entry_names(s: &[u8], c: u64, t: &mut [u32]) -> u64
 // entry-list = entry *(SP entry); it may be empty
 fn entry_list(s: &[u8], c: u64, t: &mut [u32]) -> u64
     requires { Stands 1 s.now c }
-    ensures { Reads 0 entry_list s c result t }
+    ensures { Reads 0 entry_list s.now c result t.old t.new }
 {
     if table::FAILED <= c {
         return c;
@@ -336,7 +338,7 @@ fn entry_list(s: &[u8], c: u64, t: &mut [u32]) -> u64
 // "METADATA" SP mailbox SP; the mailbox only quoted
 fn metadata_common(s: &[u8], c: u64, t: &mut [u32]) -> u64
     requires { Stands 0 s.now c }
-    ensures { Reads 0 metadata_common s c result t }
+    ensures { Reads 0 metadata_common s.now c result t.old t.new }
 {
     let r = parser_core::tag_no_case(&*s, c, b"METADATA ");
     let r = parser_core::quoted(&*s, r, t);
@@ -346,7 +348,7 @@ fn metadata_common(s: &[u8], c: u64, t: &mut [u32]) -> u64
 // A mailbox, and names with their values.
 fn mailbox_and_values(s: &[u8], c: u64, t: &mut [u32]) -> u64
     requires { Stands 0 s.now c }
-    ensures { Reads 0 (metadata_common ⋯ parenthesized_nonempty_list entry_value) s c result t }
+    ensures { Reads 0 (metadata_common ⋯ parenthesized_nonempty_list entry_value) s.now c result t.old t.new }
 {
     let r = metadata_common(&*s, c, t);
     keyval_list(&*s, r, t)
@@ -355,7 +357,7 @@ fn mailbox_and_values(s: &[u8], c: u64, t: &mut [u32]) -> u64
 // [RFC5464 - 4.4.1 METADATA Response with values]
 pub fn metadata_solicited(s: &[u8], c: u64, t: &mut [u32]) -> u64
     requires { Stands 0 s.now c }
-    ensures { Reads 0 metadata_solicited s c result t }
+    ensures { Reads 0 metadata_solicited s.now c result t.old t.new }
 {
     if table::FAILED <= c {
         return c;
@@ -368,7 +370,7 @@ pub fn metadata_solicited(s: &[u8], c: u64, t: &mut [u32]) -> u64
 // A mailbox, and names alone.
 fn mailbox_and_names(s: &[u8], c: u64, t: &mut [u32]) -> u64
     requires { Stands 0 s.now c }
-    ensures { Reads 0 (metadata_common ⋯ entry_list) s c result t }
+    ensures { Reads 0 (metadata_common ⋯ entry_list) s.now c result t.old t.new }
 {
     let r = metadata_common(&*s, c, t);
     entry_list(&*s, r, t)
@@ -377,7 +379,7 @@ fn mailbox_and_names(s: &[u8], c: u64, t: &mut [u32]) -> u64
 // [RFC5464 - 4.4.2 Unsolicited METADATA Response without values]
 pub fn metadata_unsolicited(s: &[u8], c: u64, t: &mut [u32]) -> u64
     requires { Stands 0 s.now c }
-    ensures { Reads 0 metadata_unsolicited s c result t }
+    ensures { Reads 0 metadata_unsolicited s.now c result t.old t.new }
 {
     if table::FAILED <= c {
         return c;

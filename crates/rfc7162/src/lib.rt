@@ -1,5 +1,7 @@
 //! The VANISHED response: imap-proto 0.17.0's src/rfc7162.rs.
 
+#![tactic(auto)]
+
 ghost use Rattle.grammar.specs.Notation.{◌⋯◌, any_case, space1};
 ghost use Rattle.grammar.specs.Core.{sequence_set};
 ghost use Rattle.grammar.specs.Rfc7162.{vanished_earlier, vanished, resp_vanished};
@@ -8,7 +10,7 @@ ghost use Rattle.table.specs.Promise.{Stands, Reads};
 // "VANISHED" SP "(EARLIER)" SP known-uids
 fn vanished_earlier_fields(s: &[u8], c: u64, t: &mut [u32]) -> u64
     requires { Stands 0 s.now c }
-    ensures { Reads 0 (any_case "VANISHED" ⋯ space1 ⋯ any_case "(EARLIER)" ⋯ space1 ⋯ sequence_set) s c result t }
+    ensures { Reads 0 (any_case "VANISHED" ⋯ space1 ⋯ any_case "(EARLIER)" ⋯ space1 ⋯ sequence_set) s.now c result t.old t.new }
 {
     let r = parser_core::tag_no_case(&*s, c, b"VANISHED");
     let r = parser_core::space1(&*s, r);
@@ -19,7 +21,7 @@ fn vanished_earlier_fields(s: &[u8], c: u64, t: &mut [u32]) -> u64
 
 fn vanished_earlier(s: &[u8], c: u64, t: &mut [u32]) -> u64
     requires { Stands 0 s.now c }
-    ensures { Reads 0 vanished_earlier s c result t }
+    ensures { Reads 0 vanished_earlier s.now c result t.old t.new }
 {
     if table::FAILED <= c {
         return c;
@@ -32,7 +34,7 @@ fn vanished_earlier(s: &[u8], c: u64, t: &mut [u32]) -> u64
 // "VANISHED" SP known-uids
 fn vanished_fields(s: &[u8], c: u64, t: &mut [u32]) -> u64
     requires { Stands 0 s.now c }
-    ensures { Reads 0 (any_case "VANISHED" ⋯ space1 ⋯ sequence_set) s c result t }
+    ensures { Reads 0 (any_case "VANISHED" ⋯ space1 ⋯ sequence_set) s.now c result t.old t.new }
 {
     let r = parser_core::tag_no_case(&*s, c, b"VANISHED");
     let r = parser_core::space1(&*s, r);
@@ -41,7 +43,7 @@ fn vanished_fields(s: &[u8], c: u64, t: &mut [u32]) -> u64
 
 fn vanished(s: &[u8], c: u64, t: &mut [u32]) -> u64
     requires { Stands 0 s.now c }
-    ensures { Reads 0 vanished s c result t }
+    ensures { Reads 0 vanished s.now c result t.old t.new }
 {
     if table::FAILED <= c {
         return c;
@@ -54,7 +56,7 @@ fn vanished(s: &[u8], c: u64, t: &mut [u32]) -> u64
 // expunged-resp = "VANISHED" [SP "(EARLIER)"] SP known-uids; what has no "(EARLIER)" is refused before its set is read
 pub fn resp_vanished(s: &[u8], c: u64, t: &mut [u32]) -> u64
     requires { Stands 0 s.now c }
-    ensures { Reads 0 resp_vanished s c result t }
+    ensures { Reads 0 resp_vanished s.now c result t.old t.new }
 {
     let r = vanished_earlier(&*s, c, t);
     if r != table::REFUSED {

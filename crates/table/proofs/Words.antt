@@ -72,6 +72,8 @@ lay_filled : (e : ℕ) (f : Forest) (t : List ℕ) → Single f → Filled f t (
 unfolding size words
 lay_filled e none t no_node h = record { rest = t; is = refl }
 lay_filled e (tree k a b none none) t one_node h = record { rest = drop 4 t; is = over_front k a b 1 t h }
+lay_filled e (tree k a b none (tree _ _ _ _ _)) t single h = elim single [ ]
+lay_filled e (tree k a b (tree _ _ _ _ _) _) t single h = elim single [ ]
 
 -- what was found is at most one node, and laid it fills the table
 abbrev Lone : Out → Type 0

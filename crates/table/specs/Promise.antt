@@ -1,7 +1,5 @@
 -- What the functions promise.
 use Rattle.std.specs.Prelude.{ℕ, ◌+◌, ◌*◌, ◌/◌, ◌%◌, ◌≤◌, ◌<◌, ◌≡◌, List, length}
-use Rattle.std.specs.Borrow.{Bor}
-use denote.Triple.Both.{Both}
 use Rattle.grammar.specs.Kinds.{kind_list}
 use Rattle.grammar.specs.Out.{Out}
 use Rattle.grammar.specs.Grammar.{G}
@@ -37,15 +35,12 @@ pub record Skims (g : G) (s : List ℕ) (c q : ℕ) : Type 0 where
   pub on : (t : List ℕ) → Goes 0 g s c q t t
   pub stands : Stands 0 s q
 
--- the two as contracts have them, over the references that a function was lent
-abbrev pub Lent : Type 0
-Lent = Both (Bor (List ℕ)) (Bor (List ℕ))
+-- the two as contracts have them: the buffer, the cursor before and after, the table before and after
+abbrev pub Reads : ℕ → G → List ℕ → ℕ → ℕ → List ℕ → List ℕ → Type 0
+Reads depth g s c q t t' = Goes depth g s c q t t'
 
-abbrev pub Reads : ℕ → G → Lent → ℕ → ℕ → Lent → Type 0
-Reads depth g s c q t = Goes depth g s.entry.now c q t.entry.now t.exit.now
-
-abbrev pub Skips : G → Lent → ℕ → ℕ → Type 0
-Skips g s c q = Skims g s.entry.now c q
+abbrev pub Skips : G → List ℕ → ℕ → ℕ → Type 0
+Skips g s c q = Skims g s c q
 
 -- what a function that only scans may assume of a place
 pub record Room (s : List ℕ) (at : ℕ) : Type 0 where

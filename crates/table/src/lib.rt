@@ -1,6 +1,8 @@
 //! Cursors and the lent table of nodes: four words a node, a parent before its children.
 //! `specs/Cursor.antt` says what a cursor means, `specs/Promise.antt` what every reader promises.
 
+#![tactic(auto)]
+
 ghost use Rattle.std.specs.Prelude.{◌≡◌, ◌+◌, ◌-◌, ◌*◌, ◌/◌, ◌%◌, ◌≤◌, ◌<◌};
 ghost use Rattle.grammar.specs.Grammar.{mark};
 ghost use Rattle.grammar.specs.Reading.{length_limit};
@@ -128,7 +130,7 @@ pub fn leaf(t: &mut [u32], c: u64, kind: u32, a: u32, b: u32, next: usize) -> u6
 // A node that stands for no bytes: `spare` pays for it.
 pub fn mark(s: &[u8], c: u64, t: &mut [u32], kind: u32, a: u32) -> u64
     requires { Stands 1 s.now c }
-    ensures { Reads 0 (mark kind a) s c result t }
+    ensures { Reads 0 (mark kind a) s.now c result t.old t.new }
 {
     if FAILED <= c {
         return c;

@@ -2,6 +2,8 @@
 //! The table may hold anything: a place outside it and counts that do not fit are answered, never followed. What each
 //! function answers on every table is specs/Walk.antt; that on a table of ours it finds exactly the trees, proofs/Trees.antt.
 
+#![tactic(auto)]
+
 ghost use Rattle.std.specs.Prelude.{◌≡◌, ◌<◌, ◌^◌};
 ghost use Rattle.walker.specs.Walk.{node_at, kind_at, tree_end, end_of, tree_at, first_child, next_sibling, nth_child};
 ghost use Rattle.walker.specs.Held.{walker_at};
