@@ -1,0 +1,17 @@
+use Prim.Native.Nat.{◌-◌}
+use lib.ListN.{length}
+use Rattle.table.specs.Cursor.{step, place_of}
+use Rattle.table.proofs.Bounds.{paid, item}
+use Rattle.table.proofs.Trees.{lone}
+use Rattle.table.proofs.Lists.{Turns}
+use Rattle.grammar.specs.Kinds.{kind_pair}
+use Rattle.grammar.specs.Grammar.{does, node}
+use Rattle.grammar.specs.Notation.{◌⋯◌, sp, separated_list1}
+use Rattle.grammar.specs.Core.{string}
+use Rattle.rfc3501_body_fields.proofs.params.Given as goal
+
+abbrev pub invariant-loop-t : goal.invariant-loop-t
+invariant-loop-t l = Turns 0 (does (node kind_pair) (string ⋯ sp ⋯ string)) (sp ⋯ does (node kind_pair) (string ⋯ sp ⋯ string)) l.s l.c l.k l.initial.e l.initial.count l.initial.t l.e l.count l.t
+
+abbrev pub decreases-loop-t : goal.decreases-loop-t
+decreases-loop-t l = length l.s - place_of (step l.e)

@@ -1,0 +1,15 @@
+use Prim.Native.Nat.{◌-◌}
+use lib.ListN.{length}
+use Rattle.table.specs.Cursor.{step, place_of}
+use Rattle.table.proofs.Bounds.{paid, item}
+use Rattle.table.proofs.Trees.{lone}
+use Rattle.table.proofs.Lists.{Turns}
+use Rattle.grammar.specs.Notation.{◌⋯◌, sp, separated_list1}
+use Rattle.grammar.specs.Rfc5464.{entry_value}
+use Rattle.rfc5464.proofs.entry_values.Given as goal
+
+abbrev pub invariant-loop-t : goal.invariant-loop-t
+invariant-loop-t l = Turns 0 entry_value (sp ⋯ entry_value) l.s l.c l.k l.initial.e l.initial.count l.initial.t l.e l.count l.t
+
+abbrev pub decreases-loop-t : goal.decreases-loop-t
+decreases-loop-t l = length l.s - place_of (step l.e)
