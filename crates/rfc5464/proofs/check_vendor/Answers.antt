@@ -15,7 +15,7 @@ pub returns-then-name-l-ne47 : goal.returns-then-name-l-ne47
 returns-then-name-l-ne47 c = vendor_no_slash (omega (arith, c.if-name-l-lt2.false, c.requires)) c.if-name-l-ne47.true
 
 pub overflow_add-l : goal.overflow_add-l
-overflow_add-l c = omega (arith, c.if-name-l-lt2.false, c.requires, c.well-formed)
+overflow_add-l c = omega (arith, c.if-name-l-lt2.false, c.requires, c.well_formed)
 
 pub bounds-name-l-2 : goal.bounds-name-l-2
 bounds-name-l-2 c = omega (arith, c.if-name-l-lt2.false, c.requires)
