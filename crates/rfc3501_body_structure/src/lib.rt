@@ -121,7 +121,7 @@ fn too_deep(s: &[u8], c: u64) -> u64
 }
 
 // body, one level deeper, where so many may still be opened
-#[cycle(bodies_body_body_inside_body_type_message_body_type_multipart_body_types_message_body_multipart_fields_sp_body)]
+#[cycle(body_circle)]
 pub fn body(s: &[u8], c: u64, t: &mut [u32], left: usize) -> u64
     requires { Stands 0 s.now c }
     ensures { Reads left (ref a_body) s.now c result t.old t.new }
@@ -137,7 +137,7 @@ pub fn body(s: &[u8], c: u64, t: &mut [u32], left: usize) -> u64
 }
 
 // "(" (body-type-1part / body-type-mpart) ")"; a wrong ")" does not try the next
-#[cycle(bodies_body_body_inside_body_type_message_body_type_multipart_body_types_message_body_multipart_fields_sp_body)]
+#[cycle(body_circle)]
 fn body_inside(s: &[u8], c: u64, t: &mut [u32], left: usize) -> u64
     requires { Stands 0 s.now c }
     ensures { Reads left (paren_delimited (body_type_text or body_type_message or body_type_basic or body_type_multipart)) s.now c result t.old t.new }
@@ -151,7 +151,7 @@ fn body_inside(s: &[u8], c: u64, t: &mut [u32], left: usize) -> u64
 }
 
 // text, message, basic, multipart, in that order
-#[cycle(bodies_body_body_inside_body_type_message_body_type_multipart_body_types_message_body_multipart_fields_sp_body)]
+#[cycle(body_circle)]
 fn body_types(s: &[u8], c: u64, t: &mut [u32], left: usize) -> u64
     requires { Stands 0 s.now c }
     ensures { Reads left (body_type_text or body_type_message or body_type_basic or body_type_multipart) s.now c result t.old t.new }
@@ -178,7 +178,7 @@ fn body_types(s: &[u8], c: u64, t: &mut [u32], left: usize) -> u64
 }
 
 // body-type-msg
-#[cycle(bodies_body_body_inside_body_type_message_body_type_multipart_body_types_message_body_multipart_fields_sp_body)]
+#[cycle(body_circle)]
 fn body_type_message(s: &[u8], c: u64, t: &mut [u32], left: usize) -> u64
     requires { Stands 0 s.now c }
     ensures { Reads left body_type_message s.now c result t.old t.new }
@@ -192,7 +192,7 @@ fn body_type_message(s: &[u8], c: u64, t: &mut [u32], left: usize) -> u64
 }
 
 // message-fields SP body SP body-fld-lines [SP body-ext-1part]
-#[cycle(bodies_body_body_inside_body_type_message_body_type_multipart_body_types_message_body_multipart_fields_sp_body)]
+#[cycle(body_circle)]
 fn message_body(s: &[u8], c: u64, t: &mut [u32], left: usize) -> u64
     requires { Stands 0 s.now c }
     ensures { Reads left (message_fields ⋯ sp ⋯ ref a_body ⋯ sp ⋯ number ⋯ body_ext_1part) s.now c result t.old t.new }
@@ -207,7 +207,7 @@ fn message_body(s: &[u8], c: u64, t: &mut [u32], left: usize) -> u64
 }
 
 // SP body
-#[cycle(bodies_body_body_inside_body_type_message_body_type_multipart_body_types_message_body_multipart_fields_sp_body)]
+#[cycle(body_circle)]
 fn sp_body(s: &[u8], c: u64, t: &mut [u32], left: usize) -> u64
     requires { Stands 0 s.now c }
     ensures { Reads left (sp ⋯ ref a_body) s.now c result t.old t.new }
@@ -220,7 +220,7 @@ fn sp_body(s: &[u8], c: u64, t: &mut [u32], left: usize) -> u64
 }
 
 // body-type-mpart
-#[cycle(bodies_body_body_inside_body_type_message_body_type_multipart_body_types_message_body_multipart_fields_sp_body)]
+#[cycle(body_circle)]
 fn body_type_multipart(s: &[u8], c: u64, t: &mut [u32], left: usize) -> u64
     requires { Stands 0 s.now c }
     ensures { Reads left body_type_multipart s.now c result t.old t.new }
@@ -234,7 +234,7 @@ fn body_type_multipart(s: &[u8], c: u64, t: &mut [u32], left: usize) -> u64
 }
 
 // 1*body SP media-subtype [SP body-ext-mpart]
-#[cycle(bodies_body_body_inside_body_type_message_body_type_multipart_body_types_message_body_multipart_fields_sp_body)]
+#[cycle(body_circle)]
 fn multipart_fields(s: &[u8], c: u64, t: &mut [u32], left: usize) -> u64
     requires { Stands 0 s.now c }
     ensures { Reads left (many1 (ref a_body) ⋯ sp ⋯ string ⋯ body_ext_mpart) s.now c result t.old t.new }
@@ -245,7 +245,7 @@ fn multipart_fields(s: &[u8], c: u64, t: &mut [u32], left: usize) -> u64
 }
 
 // 1*body
-#[cycle(bodies_body_body_inside_body_type_message_body_type_multipart_body_types_message_body_multipart_fields_sp_body)]
+#[cycle(body_circle)]
 fn bodies(s: &[u8], c: u64, t: &mut [u32], left: usize) -> u64
     requires { Stands 0 s.now c }
     ensures { Reads left (many1 (ref a_body)) s.now c result t.old t.new }

@@ -12,7 +12,7 @@ ghost use Rattle.table.specs.Promise.{Stands, Reads};
 // ----- extensions: a circle, each function of which begins with its guard, or a failure would walk the levels -----
 
 // body-extension = number / nstring / "(" body-extension *(SP body-extension) ")", by the first byte
-#[cycle(extension_extension_list_extensions_sp_extension)]
+#[cycle(extension_circle)]
 fn extension(s: &[u8], c: u64, t: &mut [u32], left: usize) -> u64
     requires { Stands 0 s.now c }
     ensures { Reads left body_extension s.now c result t.old t.new }
@@ -38,7 +38,7 @@ fn extension(s: &[u8], c: u64, t: &mut [u32], left: usize) -> u64
 }
 
 // SP body-extension
-#[cycle(extension_extension_list_extensions_sp_extension)]
+#[cycle(extension_circle)]
 fn sp_extension(s: &[u8], c: u64, t: &mut [u32], left: usize) -> u64
     requires { Stands 0 s.now c }
     ensures { Reads left (sp ⋯ body_extension) s.now c result t.old t.new }
@@ -51,7 +51,7 @@ fn sp_extension(s: &[u8], c: u64, t: &mut [u32], left: usize) -> u64
 }
 
 // "(" body-extension *(SP body-extension) ")"
-#[cycle(extension_extension_list_extensions_sp_extension)]
+#[cycle(extension_circle)]
 fn extension_list(s: &[u8], c: u64, t: &mut [u32], left: usize) -> u64
     requires { Stands 0 s.now c }
     ensures { Reads left extension_list s.now c result t.old t.new }
@@ -66,7 +66,7 @@ fn extension_list(s: &[u8], c: u64, t: &mut [u32], left: usize) -> u64
 }
 
 // body-extension *(SP body-extension)
-#[cycle(extension_extension_list_extensions_sp_extension)]
+#[cycle(extension_circle)]
 fn extensions(s: &[u8], c: u64, t: &mut [u32], left: usize) -> u64
     requires { Stands 0 s.now c }
     ensures { Reads left (separated_list1 sp body_extension) s.now c result t.old t.new }

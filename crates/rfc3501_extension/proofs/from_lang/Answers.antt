@@ -1,0 +1,18 @@
+use borrow.Author.Rules.{rules}
+use Rattle.rfc3501_extension.specs.Tails.{from_lang}
+use Rattle.table.proofs.Depth.{plain}
+use Rattle.table.proofs.Search.{levels_either}
+use Rattle.rfc3501_extension.proofs.from_lang.Goals as goal
+
+pub returns-then-c-ge-FAILED : goal.returns-then-c-ge-FAILED
+unfolding plain from_lang
+returns-then-c-ge-FAILED c = search levels_either
+
+pub returns-then-r : goal.returns-then-r
+unfolding plain from_lang
+returns-then-r c = search levels_either
+
+pub returns : goal.returns
+unfolding plain from_lang
+returns c = search levels_either
+
