@@ -36,6 +36,7 @@ fn wide(word: u32) -> usize
 }
 
 // The words of the node at a place.
+#[tactic(auto, using(crate::proofs::Places::node_outside, crate::proofs::Places::node_inside))]
 pub fn node_at(t: &[u32], at: usize) -> Node
     ensures { result ≡ node_at t.now at }
 {
@@ -51,6 +52,7 @@ pub fn node_at(t: &[u32], at: usize) -> Node
 }
 
 // Its kind alone, 0 where there is no node.
+#[tactic(auto, using(crate::proofs::Places::kind_outside, crate::proofs::Places::kind_inside))]
 pub fn kind_at(t: &[u32], at: usize) -> u32
     ensures { result ≡ kind_at t.now at }
 {
