@@ -1,4 +1,2 @@
 pub mod Places
 pub mod Trees
-pub mod Asks
-pub mod AsksWith

@@ -3,12 +3,9 @@
 use Prim.Native.Nat.{ℕ, zero, suc, ◌+◌, ◌-◌, ◌≤◌, ◌<◌}
 use mathlib.Core.Path.{◌≡◌, refl, sym, ◌∙◌}
 use mathlib.Core.Bool.{◌&&◌}
-use mathlib.Core.List.{List, [], ◌∷◌}
-use mathlib.Core.Logic.{inl, inr}
+use mathlib.Core.List.{List}
 use native.Mathlib.Omega.{arith}
 use lib.Dec.{T, leb, eqb, leb→le, eqb→eq}
-use types.Run.{OneOf}
-use denote.Enum.Declared.{tag_of}
 use borrow.Author.Tests.{le-ltb, lt-ltb, le-leb, eq-eqb, ne_eqb}
 use Rattle.grammar.specs.Reading.{room, kind_word, a_word, b_word, nodes_word}
 use Rattle.grammar.proofs.Tests.{branch_ind, T_left, T_right}
@@ -17,7 +14,6 @@ use Rattle.walker.specs.declared.Place.{Place}
 use Rattle.walker.specs.declared.Place.TheVariants.{At, Nothing, Wrong}
 use Rattle.walker.specs.Walk.{node_at, kind_at, then_place, proper_tree, tree_end}
 use Rattle.walker.specs.Walk.{tree_at, end_of, first_child, next_sibling, nth_tree}
-use Rattle.walker.specs.contracts.Place as PlaceType
 
 -- a node's words ----------------------------------------------------------------------------------------------------
 
@@ -42,14 +38,14 @@ module _ (t : List ℕ) (at : ℕ) where
 
 -- what the `else` of `let Place::At(..) = p else ..` is told
 abbrev pub NotAt : Place → Type 0
-NotAt p = OneOf (1 ∷ 2 ∷ []) (tag_of PlaceType.the_type p)
+NotAt p = (at : ℕ) → p ≡ At at → ⊥
 
 -- there nothing goes on
 pub halts : {p found : Place} (go : ℕ → Place) → p ≡ found → NotAt p → p ≡ then_place found go
 halts {p} go same not_at = rw (← same) (stays p not_at)
   where
     stays : (p : Place) → NotAt p → p ≡ then_place p go
-    stays (At at) not_at = absurd (elim not_at [ inl a ↦ omega arith | inr b ↦ omega arith ])
+    stays (At at) not_at = absurd (not_at at refl)
     stays Nothing not_at = refl
     stays Wrong not_at = refl
 

@@ -9,7 +9,7 @@ ghost use Rattle.walker.specs.Walk.{node_at, kind_at, tree_end, end_of, tree_at,
 ghost use Rattle.walker.specs.Held.{walker_at};
 
 // A node's words, `nodes` being how many its subtree has; or the place has no node in the table's room.
-#[derive(Drop)]
+#[derive(Clone, Copy)]
 pub enum Node {
     Words {
         kind: u32,
@@ -22,7 +22,7 @@ pub enum Node {
 
 // Where a tree stands, or ends. Nothing: there is none, the limit is reached. Wrong: what stands there is no tree within
 // the limit.
-#[derive(Drop)]
+#[derive(Clone, Copy)]
 pub enum Place {
     At(usize),
     Nothing,
@@ -36,6 +36,7 @@ fn wide(word: u32) -> usize
 }
 
 // The words of the node at a place.
+#[tactic(auto, using(crate::proofs::Places::node_outside, crate::proofs::Places::node_inside))]
 pub fn node_at(t: &[u32], at: usize) -> Node
     ensures { result ≡ node_at t.now at }
 {
@@ -51,6 +52,7 @@ pub fn node_at(t: &[u32], at: usize) -> Node
 }
 
 // Its kind alone, 0 where there is no node.
+#[tactic(auto, using(crate::proofs::Places::kind_outside, crate::proofs::Places::kind_inside))]
 pub fn kind_at(t: &[u32], at: usize) -> u32
     ensures { result ≡ kind_at t.now at }
 {
@@ -143,7 +145,7 @@ pub fn nth_child(t: &[u32], at: usize, n: usize) -> Place
 
 // A lent table and a place in it, kept together. Its functions take it apart and call those above. The children of a node w
 // stand from w.down() on, each at the next(end) of the one before it, where end is w.end().
-#[derive(Drop)]
+#[derive(Clone, Copy)]
 pub struct Walker<'a> {
     pub table: &'a [u32],
     pub at: usize,
