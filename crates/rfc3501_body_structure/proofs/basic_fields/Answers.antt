@@ -5,10 +5,13 @@ use Rattle.grammar.specs.Notation.{sp}
 use Rattle.table.proofs.Bounds.{leaves_of}
 use Rattle.table.proofs.Depth.{plain}
 use Rattle.table.proofs.Search.{levels_line, spare}
-use Rattle.rfc3501_body_structure.proofs.basic_fields.Statement.{statement}
-use Rattle.rfc3501_body_structure.proofs.basic_fields.Tie as tie
+use Rattle.rfc3501_body_structure.proofs.basic_fields.Goals as goal
 
-pub basic-fields-spec : {M : Type 1} → statement M
+pub body_ext_1part-requires : goal.body_ext_1part-requires
 unfolding leaves_of sp string body_fields plain
-basic-fields-spec =
-    tie.close (tie.spec (λ c κs. search rules) (λ c κs. search spare) (λ c. search rules) (λ c. search levels_line))
+body_ext_1part-requires c = search spare
+
+pub returns : goal.returns
+unfolding leaves_of sp string body_fields plain
+returns c = search levels_line
+

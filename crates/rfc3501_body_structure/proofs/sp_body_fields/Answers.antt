@@ -1,0 +1,13 @@
+use borrow.Author.Rules.{rules}
+use Rattle.grammar.specs.Notation.{sp}
+use Rattle.table.proofs.Search.{line}
+use Rattle.rfc3501_body_structure.proofs.sp_body_fields.Goals as goal
+
+pub returns-then-r-ge-FAILED : goal.returns-then-r-ge-FAILED
+unfolding sp
+returns-then-r-ge-FAILED c = search line
+
+pub returns : goal.returns
+unfolding sp
+returns c = search line
+
