@@ -1,4 +1,3 @@
-pub mod Arms
 pub mod Copies
 pub mod Demands
 pub mod Passes

@@ -211,7 +211,7 @@ pub fn read(number: u32, s: &[u8], t: &mut [u32]) -> Answer
     }
 }
 
-// ----- for other languages: numbers and slices only (include/elbomavund.h) -----
+// ----- for other languages: numbers and slices only; crate reader_c exports the two public ones (include/elbomavund.h) -----
 
 // The four numbers to the front of the caller's words, if there is room for all four.
 fn put_numbers(out: &mut [u64], answer: u32, taken: usize, nodes: usize, wanted: usize) -> u32
@@ -240,8 +240,7 @@ fn put_part(out: &mut [u64], answer: u32, offset: usize, len: usize) -> u32
 }
 
 // `read`, in numbers: the answer is returned, and all four go to the first four words of out.
-#[unsafe(no_mangle)]
-pub extern "C" fn elbomavund_read(number: u32, s: &[u8], t: &mut [u32], out: &mut [u64]) -> u32
+pub fn elbomavund_read(number: u32, s: &[u8], t: &mut [u32], out: &mut [u64]) -> u32
     ensures { Reports number s.now t.old out.old result t.new out.new }
 {
     let answer = read(number, s, t);
@@ -257,8 +256,7 @@ pub extern "C" fn elbomavund_read(number: u32, s: &[u8], t: &mut [u32], out: &mu
 }
 
 // The part of a buffer of len bytes that a node names: 0 or 7 is returned, offset and length go to the first two words of out.
-#[unsafe(no_mangle)]
-pub extern "C" fn elbomavund_view(len: usize, t: &[u32], node: usize, out: &mut [u64]) -> u32
+pub fn elbomavund_view(len: usize, t: &[u32], node: usize, out: &mut [u64]) -> u32
     ensures { Shows len t.now node out.old result out.new }
 {
     let part = views::part_at(len, t, node);
