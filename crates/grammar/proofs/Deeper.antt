@@ -1,14 +1,14 @@
 -- What the deepest level decides, for any deepest level: a reading with fewer levels is too deep or the same, and with as many
 -- levels as the buffer has bytes none is too deep.
-use Prim.Native.Nat.{ℕ, zero, suc, ◌+◌, ◌-◌, ◌≤◌, ◌<◌}
-use mathlib.Core.Path.{◌≡◌, refl, sym, ap, subst, ◌∙◌}
+use Prim.Native.Nat.{ℕ, zero, suc, ◌+◌, ◌≤◌, ◌<◌}
+use mathlib.Core.Path.{◌≡◌, refl, sym}
 use mathlib.Core.Bool.{Bool, true, false}
 use mathlib.Core.List.{List}
 use native.Mathlib.Omega.{arith}
 use lib.ListN.{length, take, drop}
 use lib.Dec.{ltb, ltb→lt, leb, leb→le, nleb→lt, not_T}
 use Rattle.grammar.specs.Text.{ascii}
-use Rattle.grammar.specs.Forest.{Forest, none, size}
+use Rattle.grammar.specs.Forest.{Forest, size}
 use Rattle.grammar.specs.Out.{Out, took, more, refused, deep, branch, followed_by, or_else, with_before, again, repeated}
 use Rattle.grammar.specs.Scan.{Scanned, ended, short, failed, scan, Leaf, tag, leaf_move, first_state, leaf_fits, leaf_found}
 use Rattle.grammar.specs.Scan.{leaf_at, header_move, content, literal_at}

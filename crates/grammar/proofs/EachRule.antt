@@ -128,10 +128,6 @@ all_accept : T (upto last_rule (accepts accepted_by))
 unfolding computing accepted_by
 all_accept = tt
 
-all_tell_taken : T (upto last_rule (λ n. one_of one_length n || tells (λ r. r.taken) n))
-unfolding computing accepted_by accepted_too
-all_tell_taken = tt
-
 all_tell_nodes : T (upto last_rule (λ n. one_of one_node n || tells (λ r. r.nodes) n))
 unfolding computing accepted_by accepted_too
 all_tell_nodes = tt
@@ -200,10 +196,12 @@ module _ (n : ℕ) (low : 1 ≤ n) (high : n ≤ last_rule) where
       (same (get_or accepted_by n []) (lent 100) (short accepted_by first) (is_accepted accepted_by first)
       ∙ sym (same (get_or accepted_too n []) (lent 100) (short accepted_too second) (is_accepted accepted_too second)))
 
-  -- taken, but for the rule of one word,
+  -- taken, but for the rule of one word (its test is computed here, so that a wrong list of rules fails this theorem itself),
   pub no_constant_taken : (T (one_of one_length n) → ⊥)
       → (k : ℕ) → ((s t : List ℕ) → length s ≤ length_limit → (result n s t).answer ≡ 0 → (result n s t).taken ≡ k) → ⊥
+  unfolding computing accepted_by accepted_too
   no_constant_taken other =
+      let all_tell_taken : T (upto last_rule (λ n. one_of one_length n || tells (λ r. r.taken) n)) = tt in
       T_or (one_of one_length n) (tells (λ r. r.taken) n)
       (upto_at last_rule (λ n. one_of one_length n || tells (λ r. r.taken) n) all_tell_taken n low high)
       (λ t. absurd (other t)) (λ t. telling (λ r. r.taken) t)

@@ -1,26 +1,26 @@
 -- WHERE A RULE LEAVES NO CHOICE: rules that hold no literal want no bytes, rules of one node have one, and the rule of one word
 -- takes its length. These are the exceptions that EachRule.antt names.
 use Prim.Native.Char.{code}
-use Prim.Native.Nat.{ℕ, zero, suc, ◌+◌, ◌≤◌, ◌<◌}
-use mathlib.Core.Path.{◌≡◌, refl, sym, ap, subst, ◌∙◌}
-use mathlib.Core.Bool.{Bool, true, false, not, ◌&&◌, ◌||◌}
-use mathlib.Core.List.{List, [], ◌∷◌}
+use Prim.Native.Nat.{ℕ, zero, suc, ◌+◌, ◌≤◌}
+use mathlib.Core.Path.{◌≡◌, refl, sym, ap, ◌∙◌}
+use mathlib.Core.Bool.{Bool, true, false, ◌&&◌}
+use mathlib.Core.List.{List}
 use native.Mathlib.Omega.{arith}
 use lib.ListN.{length, take, drop, get_or}
 use lib.Dec.{T, leb, eqb, eqb→eq}
-use Rattle.grammar.specs.Forest.{Forest, none, tree, node_of, size, beside}
-use Rattle.grammar.specs.Out.{Out, took, more, refused, deep, branch, repeated}
-use Rattle.grammar.specs.Scan.{Scanned, ended, short, failed, Move, scan, Leaf, tag, tag_no_case, digits, quotes, take_while1, take_while, leaf_fits}
+use Rattle.grammar.specs.Forest.{Forest, none, tree, size}
+use Rattle.grammar.specs.Out.{Out, took, more, refused, deep, repeated}
+use Rattle.grammar.specs.Scan.{Scanned, ended, short, failed, scan, Leaf, tag, tag_no_case, digits, quotes, take_while1, take_while, leaf_fits}
 use Rattle.grammar.specs.Scan.{leaf_nodes, leaf_found, leaf_at, content, literal_at, header_move, leaf_move, first_state, tag_move, capital}
 use Rattle.grammar.specs.Grammar.{Act, node, listed, heads, range, uid_range, dropped, act, G, leaf, literal, nothing, mark, seq, alt, star, does, entry, ref, named, Inner, Reader, run}
 use Rattle.grammar.specs.EntryName.{check_entry_name}
-use Rattle.grammar.specs.Rules.{rule, rules, levels}
-use Rattle.grammar.specs.Reading.{reading, deepest_level, length_limit, last_rule, known_rule, room, Result, settled, no_reading, result_at, result}
+use Rattle.grammar.specs.Rules.{rule, levels}
+use Rattle.grammar.specs.Reading.{reading, length_limit, known_rule, room, Result, settled, result_at}
 use Rattle.grammar.proofs.Tests.{branch_ind, T_left, T_right, apart}
-use Rattle.grammar.proofs.On.{On, on_took, on_more, on_refused, on_deep, on_map, on_then, on_else, on_again, at_took, at_more}
+use Rattle.grammar.proofs.On.{On, on_took, on_more, on_refused, on_map, on_then, on_else, on_again, at_took, at_more}
 use Rattle.grammar.proofs.Scans.{Moves, goes_on, ends_after, fails, scan_ind, on_leaf}
 use Rattle.grammar.proofs.Forests.{size_beside}
-use Rattle.grammar.proofs.Demand3.{Open, open_reading}
+use Rattle.grammar.proofs.Demand3.{open_reading}
 
 -- wanted ----------------------------------------------------------------------------------------------------------------------
 

@@ -1,22 +1,21 @@
 -- RANGES: in an accepted reading every node that holds a start and an end holds a range of the bytes taken.
 use Prim.Native.Char.{code}
-use Prim.Native.Nat.{ℕ, zero, suc, ◌+◌, ◌-◌, ◌*◌, ◌≤◌, ◌<◌}
-use mathlib.Core.Path.{◌≡◌, refl, sym, subst}
-use mathlib.Core.Bool.{Bool, true, false, not, ◌&&◌, ◌||◌}
+use Prim.Native.Nat.{ℕ, zero, suc, ◌+◌, ◌*◌, ◌≤◌, ◌<◌}
+use mathlib.Core.Path.{◌≡◌}
+use mathlib.Core.Bool.{true, not}
 use mathlib.Core.List.{List, [], ◌∷◌, ◌++◌, append_assoc, append-nil}
 use native.Mathlib.Omega.{arith}
 use lib.ListN.{length, drop, get_or, get_or-append}
-use lib.Dec.{T, leb, eqb, T_not}
+use lib.Dec.{T, eqb, T_not}
 use Rattle.grammar.specs.Forest.{Forest, none, tree, node_of, size, words, beside}
-use Rattle.grammar.specs.Out.{Out, took, more, refused, deep, branch}
+use Rattle.grammar.specs.Out.{took}
 use Rattle.grammar.specs.Scan.{Leaf, tag, tag_no_case, digits, quotes, take_while1, take_while, leaf_move, first_state}
-use Rattle.grammar.specs.Scan.{leaf_fits, leaf_nodes, leaf_at, header_move, literal_at, text_char, quoted_special, scan, quotes_move}
-use Rattle.grammar.specs.Grammar.{Act, node, listed, heads, range, uid_range, dropped, act, G, run}
-use Rattle.grammar.specs.Rules.{rule, levels}
+use Rattle.grammar.specs.Scan.{leaf_nodes, leaf_at, header_move, literal_at, text_char, quoted_special, scan, quotes_move}
+use Rattle.grammar.specs.Grammar.{Act, node, listed, heads, range, uid_range, dropped, act, G}
 use Rattle.grammar.specs.Reading.{reading, node_words, kind_word, a_word, b_word}
 use Rattle.grammar.specs.Proper.{ranged}
-use Rattle.grammar.proofs.Tests.{branch_ind, T_or}
-use Rattle.grammar.proofs.On.{On, at_took}
+use Rattle.grammar.proofs.Tests.{branch_ind}
+use Rattle.grammar.proofs.On.{at_took}
 use Rattle.grammar.proofs.Scans.{Scans, scans_map, scans_both, Moves, goes_on, ends_after, fails, scan_ind, scan_bounds, on_leaf, on_content}
 use Rattle.grammar.proofs.Forests.{length_words}
 use Rattle.grammar.proofs.Closed.{Test, everywhere, Closed, rule_keeps}

@@ -3,21 +3,19 @@
 use Prim.Native.Char.{code}
 use Prim.Native.Nat.{ℕ, zero, suc, ◌+◌, ◌-◌, ◌≤◌, ◌<◌}
 use mathlib.Core.Path.{◌≡◌, refl, sym, ap, subst, ◌∙◌}
-use mathlib.Core.Bool.{Bool, true, false, ◌&&◌}
-use mathlib.Core.List.{List, [], ◌∷◌}
+use mathlib.Core.Bool.{◌&&◌}
+use mathlib.Core.List.{List}
 use native.Mathlib.Omega.{arith}
 use lib.ListN.{length, take, drop, get_or}
-use lib.Seq.{get_or-drop}
-use lib.Dec.{T, leb, eqb, leb→le, nleb→lt, eqb→eq}
-use Rattle.grammar.specs.Out.{Out, more}
-use Rattle.grammar.specs.Scan.{Leaf, leaf_at, leaf_move, first_state, Move, Scanned, ended, failed, moved, scan, digit, header_move, largest_32, literal_at}
-use Rattle.grammar.specs.Rules.{rule}
+use lib.Dec.{leb, eqb, leb→le, nleb→lt, eqb→eq}
+use Rattle.grammar.specs.Out.{more}
+use Rattle.grammar.specs.Scan.{Leaf, leaf_at, leaf_move, first_state, ended, moved, scan, digit, header_move, largest_32, literal_at}
 use Rattle.grammar.specs.Reading.{reading}
-use Rattle.grammar.specs.OpenLiteral.{State, free, inside, to_come, start, walk, lacking, Outside, outside, Wants, OpenLiteral}
+use Rattle.grammar.specs.OpenLiteral.{State, free, inside, to_come, start, walk, lacking, Outside, outside, OpenLiteral}
 use Rattle.grammar.proofs.Tests.{branch_ind, either_way, apart, T_left}
 use Rattle.grammar.proofs.On.{On, on_map, on_itself, on_both, at_more}
 use Rattle.grammar.proofs.Scans.{scan_bounds, scan_ind, scan_step, scans_at, Moves, goes_on, ends_after, fails, on_leaf}
-use Rattle.grammar.proofs.Walk.{Quiet, free_quiet, cr_quiet, Reach, reach_trans, reach_det, reach_le, stay, reach_content, reach_walk, Calm, Unfinished, calm_here, calm_trans, walked, walked_all}
+use Rattle.grammar.proofs.Walk.{Quiet, free_quiet, cr_quiet, Reach, reach_trans, reach_le, stay, reach_content, reach_walk, Calm, Unfinished, calm_here, calm_trans, walked, walked_all}
 use Rattle.grammar.proofs.Literals.{text_test, Outside as EndsOutside, walk_closed, words_are_text, rule_fine, Announced, header_announces, digit_no_brace}
 use Rattle.grammar.proofs.Closed.{Closed, rule_keeps}
 use Rattle.grammar.proofs.Wanted.{literal_wants, completes}

@@ -165,6 +165,7 @@ pub fn finish(t: &mut [u32], kind: u32, c: u64, inner: u64) -> u64
 }
 
 // The end of a list: an item that was refused ends it, and its own words are put before its items; any other failure ends the reading.
+#[tactic(auto, using(crate::proofs::Puts::list_stop, crate::proofs::Puts::list_done))]
 pub fn list(t: &mut [u32], c: u64, inner: u64, count: u32, last: u64) -> u64
     requires ready { Ready c }
     requires inner_lt_first_failure { inner < first_failure }

@@ -7,4 +7,3 @@ returns-then-inner-ge-FAILED c = search (finish_stop, rules)
 
 pub returns : goal.returns
 returns c = search (finish_done, rules)
-

@@ -21,4 +21,3 @@ returns-then-k-t c = search (head_done, rules)
 
 pub returns-else-k-t : goal.returns-else-k-t
 returns-else-k-t c = search (head_short, rules)
-

@@ -7,4 +7,3 @@ returns-then-k-len c = search (lends_next, rules)
 
 pub returns-else-k-len : goal.returns-else-k-len
 returns-else-k-len c = search (lends_none, rules)
-

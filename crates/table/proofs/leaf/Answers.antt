@@ -4,4 +4,3 @@ use Rattle.table.proofs.leaf.Goals as goal
 
 pub returns : goal.returns
 returns c = search (leaf_done, rules)
-

@@ -8,4 +8,3 @@ returns-then-c-ge-FAILED c = search (failed, spares_none, rules)
 
 pub returns : goal.returns
 returns c = search (mark_done, rules)
-

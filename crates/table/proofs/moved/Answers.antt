@@ -4,4 +4,3 @@ use Rattle.table.proofs.moved.Goals as goal
 
 pub returns : goal.returns
 returns c = search (moved_done, rules)
-

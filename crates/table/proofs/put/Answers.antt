@@ -18,4 +18,3 @@ returns-then-k-t c = search (put_done, rules)
 
 pub returns-else-k-t : goal.returns-else-k-t
 returns-else-k-t c = search (put_none, rules)
-
