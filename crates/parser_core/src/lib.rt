@@ -153,7 +153,7 @@ pub fn char(s: &[u8], c: u64, b: u8) -> u64
 // The bytes of a word, ASCII case ignored.
 pub fn tag_no_case(s: &[u8], c: u64, word: &[u8]) -> u64
     requires stands { Stands 0 s.now c }
-    requires in_bounds { 1 ≤ length word.now }
+    requires a_byte { 1 ≤ length word.now }
     ensures { Skips (leaf (tag_no_case word.now)) s.now c result }
 {
     if table::FAILED <= c {
@@ -380,7 +380,7 @@ fn valued(value: Value, next: usize) -> Numeral
 // The same as `digits_32`, up to `largest`.
 fn digits(s: &[u8], at: usize, largest: u64) -> Numeral
     requires room { Room s.now at }
-    requires le_largest { 9 ≤ largest }
+    requires a_digit { 9 ≤ largest }
     ensures { Counts64 largest s.now at result }
 {
     if s.len() <= at {
@@ -476,7 +476,7 @@ fn quoted_end(s: &[u8], at: usize) -> u64
 // quoted = DQUOTE *QUOTED-CHAR DQUOTE, where the opening quote was seen
 fn quoted_from(s: &[u8], c: u64, t: &mut [u32], at: usize) -> u64
     requires stands { Stands 0 s.now c }
-    requires c_lt_first_failure { c < first_failure }
+    requires going { c < first_failure }
     requires placed { Placed c at }
     requires opened { Opened s.now at }
     ensures { Reads 0 quoted s.now c result t.old t.new }

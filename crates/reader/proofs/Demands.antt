@@ -1,7 +1,7 @@
 -- THE THREE DEMANDS, of every result that the promise of `read` allows. OPEN THIS FIRST: each theorem stands under the words of
 -- the demand, quoted whole. `Answers n s t r t'`: read(n, s, t) answered r and left the table t' (specs/Answers.antt). What
 -- `Proper`, `SameAnswer` and `OpenLiteral` say stands in crates/grammar/specs/Proper.antt and OpenLiteral.antt.
-use Prim.Native.Nat.{ℕ, zero, suc, ◌+◌, ◌-◌, ◌≤◌, ◌<◌}
+use Prim.Native.Nat.{ℕ, zero, suc, ◌-◌, ◌≤◌, ◌<◌}
 use mathlib.Core.Path.{◌≡◌, refl, sym, ap, subst, ◌∙◌}
 use mathlib.Core.List.{List, [], ◌∷◌, ◌++◌}
 use native.Mathlib.Omega.{arith}

@@ -30,8 +30,8 @@ pub enum Answer {
 
 // No other number comes here: `read` gives those answer 5.
 fn once(number: u32, s: &[u8], t: &mut [u32]) -> u64
-    requires s_in_bounds { length s.now ≤ length_limit }
-    requires le_number { (1 ≤ number) × (number ≤ last_rule) }
+    requires in_limit { length s.now ≤ length_limit }
+    requires known_rule { (1 ≤ number) × (number ≤ last_rule) }
     ensures { Reads deepest_level (rule number) s.now 0 result t.old t.new }
 {
     match number {
@@ -96,8 +96,8 @@ fn copy_front(from: &[u32], t: &mut [u32], k: usize)
 
 // A reading by way of these words: their nodes are copied, and more nodes than they hold are read anew, into the table.
 fn read_by(number: u32, s: &[u8], scratch: &mut [u32], t: &mut [u32]) -> Answer
-    requires s_in_bounds { length s.now ≤ length_limit }
-    requires le_number { (1 ≤ number) × (number ≤ last_rule) }
+    requires in_limit { length s.now ≤ length_limit }
+    requires known_rule { (1 ≤ number) × (number ≤ last_rule) }
     ensures { Answers number s.now t.old result t.new }
 {
     let q = once(number, &*s, scratch);
@@ -122,8 +122,8 @@ fn read_by(number: u32, s: &[u8], scratch: &mut [u32], t: &mut [u32]) -> Answer
 // readings have few nodes however long the buffer is, few for a short buffer.
 
 fn read_by_64(number: u32, s: &[u8], t: &mut [u32]) -> Answer
-    requires s_in_bounds { length s.now ≤ length_limit }
-    requires le_number { (1 ≤ number) × (number ≤ last_rule) }
+    requires in_limit { length s.now ≤ length_limit }
+    requires known_rule { (1 ≤ number) × (number ≤ last_rule) }
     ensures { Answers number s.now t.old result t.new }
 {
     let mut scratch = [0u32; 64];
@@ -131,8 +131,8 @@ fn read_by_64(number: u32, s: &[u8], t: &mut [u32]) -> Answer
 }
 
 fn read_by_256(number: u32, s: &[u8], t: &mut [u32]) -> Answer
-    requires s_in_bounds { length s.now ≤ length_limit }
-    requires le_number { (1 ≤ number) × (number ≤ last_rule) }
+    requires in_limit { length s.now ≤ length_limit }
+    requires known_rule { (1 ≤ number) × (number ≤ last_rule) }
     ensures { Answers number s.now t.old result t.new }
 {
     let mut scratch = [0u32; 256];
@@ -140,8 +140,8 @@ fn read_by_256(number: u32, s: &[u8], t: &mut [u32]) -> Answer
 }
 
 fn read_by_1024(number: u32, s: &[u8], t: &mut [u32]) -> Answer
-    requires s_in_bounds { length s.now ≤ length_limit }
-    requires le_number { (1 ≤ number) × (number ≤ last_rule) }
+    requires in_limit { length s.now ≤ length_limit }
+    requires known_rule { (1 ≤ number) × (number ≤ last_rule) }
     ensures { Answers number s.now t.old result t.new }
 {
     let mut scratch = [0u32; 1024];
@@ -149,8 +149,8 @@ fn read_by_1024(number: u32, s: &[u8], t: &mut [u32]) -> Answer
 }
 
 fn read_by_4096(number: u32, s: &[u8], t: &mut [u32]) -> Answer
-    requires s_in_bounds { length s.now ≤ length_limit }
-    requires le_number { (1 ≤ number) × (number ≤ last_rule) }
+    requires in_limit { length s.now ≤ length_limit }
+    requires known_rule { (1 ≤ number) × (number ≤ last_rule) }
     ensures { Answers number s.now t.old result t.new }
 {
     let mut scratch = [0u32; 4096];
@@ -158,8 +158,8 @@ fn read_by_4096(number: u32, s: &[u8], t: &mut [u32]) -> Answer
 }
 
 fn read_by_8192(number: u32, s: &[u8], t: &mut [u32]) -> Answer
-    requires s_in_bounds { length s.now ≤ length_limit }
-    requires le_number { (1 ≤ number) × (number ≤ last_rule) }
+    requires in_limit { length s.now ≤ length_limit }
+    requires known_rule { (1 ≤ number) × (number ≤ last_rule) }
     ensures { Answers number s.now t.old result t.new }
 {
     let mut scratch = [0u32; 8192];

@@ -57,7 +57,7 @@ fn header_fields(s: &[u8], c: u64, t: &mut [u32]) -> u64
 // One of the section texts.
 fn text_is(s: &[u8], c: u64, t: &mut [u32], name: &[u8], which: u32) -> u64
     requires stands { Stands 0 s.now c }
-    requires in_bounds { 1 ≤ length name.now }
+    requires a_byte { 1 ≤ length name.now }
     ensures { Reads 0 (leaf (tag_no_case name.now) ⋯ mark kind_section_text which) s.now c result t.old t.new }
 {
     let r = parser_core::tag_no_case(&*s, c, &*name);

@@ -91,7 +91,7 @@ fn sp_uid_set(s: &[u8], c: u64, t: &mut [u32]) -> u64
 // A code's name, nz-number SP uid-set
 fn named_uids(s: &[u8], c: u64, t: &mut [u32], name: &[u8]) -> u64
     requires stands { Stands 0 s.now c }
-    requires in_bounds { 1 ≤ length name.now }
+    requires a_byte { 1 ≤ length name.now }
     ensures { Reads 0 (leaf (tag_no_case name.now) ⋯ number ⋯ sp ⋯ uid_set) s.now c result t.old t.new }
 {
     let r = parser_core::tag_no_case(&*s, c, name);

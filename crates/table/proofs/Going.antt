@@ -1,10 +1,10 @@
 -- The laws of `Goes`: stopping, sequences, alternatives, leaves.
-use Prim.Native.Nat.{ℕ, ◌+◌, ◌-◌, ◌*◌, ◌≤◌, ◌<◌}
+use Prim.Native.Nat.{ℕ, ◌+◌, ◌*◌, ◌≤◌, ◌<◌}
 use mathlib.Core.Path.{◌≡◌, refl, sym, ap, subst, ◌∙◌}
 use mathlib.Core.List.{List, []}
 use native.Mathlib.Omega.{arith}
 use lib.ListN.{length}
-use Rattle.grammar.specs.Forest.{Forest, none, tree, node_of, size, beside}
+use Rattle.grammar.specs.Forest.{Forest, none, node_of, size, beside}
 use Rattle.grammar.specs.Out.{Out, took, more, refused, deep, followed_by, or_else, with_before}
 use Rattle.grammar.specs.Scan.{Leaf, leaf_at, literal_at}
 use Rattle.grammar.specs.Grammar.{G, leaf, literal, nothing, seq, alt, run}

@@ -1,7 +1,7 @@
 -- What the first byte decides, and the buffer's end: computed of the grammar.
 use Prim.Native.Char.{code}
 use Prim.Native.Nat.{ℕ, zero, suc, ◌≤◌, ◌<◌}
-use mathlib.Core.Path.{◌≡◌, refl, sym, ap, subst, ◌∙◌}
+use mathlib.Core.Path.{◌≡◌, refl, ap, subst, ◌∙◌}
 use mathlib.Core.Bool.{Bool, true, false, ◌||◌}
 use mathlib.Core.List.{List}
 use lib.Dec.{T, eqb}
@@ -13,7 +13,7 @@ use Rattle.grammar.specs.Scan.{tag, Move, on, end_before, end_after, fail, Scann
 use Rattle.grammar.specs.Grammar.{Act, node, listed, heads, range, uid_range, dropped, Inner, a_body, an_extension_list, G, leaf, literal, nothing, mark, seq, alt, star, does, entry, ref, Reader, run}
 use Rattle.grammar.specs.BodyStructure.{grammar}
 use Rattle.grammar.specs.Rules.{levels}
-use Rattle.table.specs.Table.{onward, lay}
+use Rattle.table.specs.Table.{lay}
 use Rattle.table.specs.Fill.{Filler, act_table, fill_with, fill_levels}
 use Rattle.table.proofs.Onward.{onward_still}
 use Rattle.table.proofs.Going.{Still}

@@ -62,8 +62,8 @@ pub fn nodes(c: u64) -> usize
 
 // So many bytes further.
 pub fn past(c: u64, k: usize) -> u64
-    requires c_lt_first_failure { c < first_failure }
-    requires k_in_bounds { k ≤ length_limit }
+    requires going { c < first_failure }
+    requires in_limit { k ≤ length_limit }
     ensures { result ≡ c + k }
 {
     c + (k as u64)
@@ -72,7 +72,7 @@ pub fn past(c: u64, k: usize) -> u64
 // Another place, with the same nodes.
 pub fn moved(c: u64, next: usize) -> u64
     requires ready { Ready c }
-    requires next_in_bounds { next ≤ length_limit }
+    requires in_limit { next ≤ length_limit }
     ensures { Moved c next result }
 {
     c - c % 4294967296 + (next as u64)
@@ -81,8 +81,8 @@ pub fn moved(c: u64, next: usize) -> u64
 // ----- a place and a number in one word, for what makes no node -----
 
 pub fn found(next: usize, value: u64) -> u64
-    requires next_in_bounds { next ≤ length_limit }
-    requires value_bound { value < 4294967296 }
+    requires in_limit { next ≤ length_limit }
+    requires in_word { value < 4294967296 }
     ensures { result ≡ next * 4294967296 + value }
 {
     (next as u64) * 4294967296 + value
@@ -119,7 +119,7 @@ fn put(t: &mut [u32], n: usize, kind: u32, a: u32, b: u32, size: u32)
 // A node without children, read up to `next`.
 pub fn leaf(t: &mut [u32], c: u64, kind: u32, a: u32, b: u32, next: usize) -> u64
     requires ready { Ready c }
-    requires next_in_bounds { next ≤ length_limit }
+    requires in_limit { next ≤ length_limit }
     ensures { Leafed kind a b next c result t.old t.new }
 {
     let n = nodes(c);
@@ -168,7 +168,7 @@ pub fn finish(t: &mut [u32], kind: u32, c: u64, inner: u64) -> u64
 #[tactic(auto, using(crate::proofs::Puts::list_stop, crate::proofs::Puts::list_done))]
 pub fn list(t: &mut [u32], c: u64, inner: u64, count: u32, last: u64) -> u64
     requires ready { Ready c }
-    requires inner_lt_first_failure { inner < first_failure }
+    requires inner_going { inner < first_failure }
     requires fits { Fits c inner }
     ensures { Listed count c inner last result t.old t.new }
 {

@@ -1,11 +1,7 @@
-use Prim.Native.Nat.{◌-◌}
-use lib.ListN.{length}
-use Rattle.table.specs.Cursor.{step, place_of}
 use Rattle.table.proofs.Bounds.{paid, item}
 use Rattle.table.proofs.Trees.{lone}
-use Rattle.table.proofs.Lists.{Turns}
 use Rattle.table.proofs.Search.{list}
-use Rattle.grammar.specs.Notation.{◌⋯◌, sp, separated_list1}
+use Rattle.grammar.specs.Notation.{sp, separated_list1}
 use Rattle.grammar.specs.Core.{astring}
 use Rattle.lists.proofs.astrings.Goals as goal
 
@@ -96,4 +92,3 @@ loop-t-smaller c = search list
 pub loop-t-preserved : goal.loop-t-preserved
 unfolding item lone paid separated_list1 sp astring
 loop-t-preserved c = search list
-

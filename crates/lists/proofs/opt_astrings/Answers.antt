@@ -1,4 +1,3 @@
-use borrow.Author.Rules.{rules}
 use Rattle.grammar.specs.Notation.{separated_list0}
 use Rattle.table.proofs.Search.{either}
 use Rattle.lists.proofs.opt_astrings.Goals as goal
@@ -14,4 +13,3 @@ returns-then-r c = search either
 pub returns : goal.returns
 unfolding separated_list0
 returns c = search either
-

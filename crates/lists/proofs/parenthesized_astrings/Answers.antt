@@ -11,4 +11,3 @@ opt_astrings-r-requires c = search (spare_skims, rules)
 pub returns : goal.returns
 unfolding parenthesized_list
 returns c = search line
-

@@ -1,4 +1,3 @@
-use borrow.Author.Rules.{rules}
 use Rattle.grammar.specs.Core.{sequence_member}
 use Rattle.lists.proofs.Members.{ranges}
 use Rattle.lists.proofs.sequence_member.Goals as goal
@@ -50,4 +49,3 @@ leaf-requires-2 c = search ranges
 pub returns : goal.returns
 unfolding sequence_member
 returns c = search ranges
-

@@ -1,11 +1,9 @@
 use Prim.Native.Nat.{◌-◌}
 use lib.ListN.{length}
 use Rattle.table.specs.Cursor.{step, place_of}
-use Rattle.table.proofs.Bounds.{paid, item}
-use Rattle.table.proofs.Trees.{lone}
 use Rattle.table.proofs.Lists.{Turns}
-use Rattle.grammar.specs.Notation.{◌⋯◌, exact, separated_list1}
-use Rattle.grammar.specs.Core.{sequence_set, sequence_member}
+use Rattle.grammar.specs.Notation.{◌⋯◌, exact}
+use Rattle.grammar.specs.Core.{sequence_member}
 use Rattle.lists.proofs.sequence_set.Given as goal
 
 abbrev pub invariant-loop-t : goal.invariant-loop-t

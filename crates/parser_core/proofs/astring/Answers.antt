@@ -1,4 +1,3 @@
-use borrow.Author.Rules.{rules}
 use Rattle.grammar.specs.Core.{astring}
 use Rattle.table.proofs.Search.{either}
 use Rattle.parser_core.proofs.astring.Goals as goal
@@ -10,4 +9,3 @@ returns-then-r c = search either
 pub returns : goal.returns
 unfolding astring
 returns c = search either
-

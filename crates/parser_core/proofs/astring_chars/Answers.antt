@@ -1,4 +1,3 @@
-use borrow.Author.Rules.{rules}
 use Rattle.parser_core.proofs.Leaves.{run_word}
 use Rattle.parser_core.proofs.Search.{runs}
 use Rattle.parser_core.proofs.astring_chars.Goals as goal
@@ -23,4 +22,3 @@ leaf-requires c = search runs
 
 pub returns : goal.returns
 returns c = search runs
-

@@ -1,4 +1,3 @@
-use borrow.Author.Rules.{rules}
 use Rattle.parser_core.proofs.Tags.{byte}
 use Rattle.parser_core.proofs.char.Goals as goal
 
@@ -13,4 +12,3 @@ returns-then-s-i-2 c = search byte
 
 pub returns-else-s-i-2 : goal.returns-else-s-i-2
 returns-else-s-i-2 c = search byte
-

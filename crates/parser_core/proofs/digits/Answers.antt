@@ -1,7 +1,5 @@
-use Prim.Native.Nat.{◌-◌}
-use lib.ListN.{length}
 use borrow.Author.Rules.{rules}
-use Rattle.parser_core.proofs.Numbers.{digit_least, digit_word, digit_value, Counting, counts_none, counts_wrong}
+use Rattle.parser_core.proofs.Numbers.{digit_least, digit_word, digit_value, counts_none, counts_wrong}
 use Rattle.parser_core.proofs.Numbers.{counting_starts, counting_on, counts_short, counts_ends}
 use Rattle.parser_core.proofs.digits.Goals as goal
 
@@ -37,4 +35,3 @@ returns-then-is_digit c = search (counts_short, rules)
 
 pub returns : goal.returns
 returns c = search (counts_wrong, rules)
-

@@ -1,7 +1,5 @@
-use Prim.Native.Nat.{◌-◌}
-use lib.ListN.{length}
 use borrow.Author.Rules.{rules}
-use Rattle.parser_core.proofs.Numbers.{digit_least, digit_word, digit_adds, Summing, counts32_none, counts32_wrong, counting32_starts, counting32_on, counts32_over, counts32_short, counts32_large, counts32_ends}
+use Rattle.parser_core.proofs.Numbers.{digit_least, digit_word, digit_adds, counts32_none, counts32_wrong, counting32_starts, counting32_on, counts32_over, counts32_short, counts32_large, counts32_ends}
 use Rattle.parser_core.proofs.digits_32.Goals as goal
 
 pub returns-then-s-at : goal.returns-then-s-at
@@ -42,4 +40,3 @@ returns-then-is_digit c = search (counts32_short, rules)
 
 pub returns : goal.returns
 returns c = search (counts32_wrong, rules)
-

@@ -1,6 +1,5 @@
 use mathlib.Core.Path.{ap}
 use mathlib.Core.Bool.{not}
-use borrow.Author.Rules.{rules}
 use borrow.Author.Tests.{le-leb, lt-leb}
 use Rattle.parser_core.proofs.is_astring_char.Goals as goal
 
@@ -9,4 +8,3 @@ returns-then-c-lt32 c = simp (lt-leb _ _ c.if-c-lt32.true)
 
 pub returns : goal.returns
 returns c = simp (le-leb _ _ c.if-c-lt32.false) (ap not c.is_atom_specials.ensures)
-

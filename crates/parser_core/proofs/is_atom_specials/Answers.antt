@@ -1,5 +1,4 @@
 use mathlib.Core.Path.{sym, ◌∙◌}
-use borrow.Author.Rules.{rules}
 use borrow.Author.Tests.{eq-eqb, ne_eqb}
 use Rattle.parser_core.proofs.is_atom_specials.Goals as goal
 
@@ -17,20 +16,19 @@ returns-then-c-eq32 c = simp (ne_eqb _ _ c.if-c-eq40.false, ne_eqb _ _ c.if-c-eq
 
 pub returns-then-is_list_wildcards : goal.returns-then-is_list_wildcards
 returns-then-is_list_wildcards c = simp (
-      ne_eqb _ _ c.if-c-eq40.false,
-      ne_eqb _ _ c.if-c-eq41.false,
-      ne_eqb _ _ c.if-c-eq123.false,
-      ne_eqb _ _ c.if-c-eq32.false,
-      sym c.is_list_wildcards.ensures ∙ c.if-is_list_wildcards.true,
-    )
+  ne_eqb _ _ c.if-c-eq40.false,
+  ne_eqb _ _ c.if-c-eq41.false,
+  ne_eqb _ _ c.if-c-eq123.false,
+  ne_eqb _ _ c.if-c-eq32.false,
+  sym c.is_list_wildcards.ensures ∙ c.if-is_list_wildcards.true,
+)
 
 pub returns : goal.returns
 returns c = simp (
-      ne_eqb _ _ c.if-c-eq40.false,
-      ne_eqb _ _ c.if-c-eq41.false,
-      ne_eqb _ _ c.if-c-eq123.false,
-      ne_eqb _ _ c.if-c-eq32.false,
-      sym c.is_list_wildcards.ensures ∙ c.if-is_list_wildcards.false,
-    )
+  ne_eqb _ _ c.if-c-eq40.false,
+  ne_eqb _ _ c.if-c-eq41.false,
+  ne_eqb _ _ c.if-c-eq123.false,
+  ne_eqb _ _ c.if-c-eq32.false,
+  sym c.is_list_wildcards.ensures ∙ c.if-is_list_wildcards.false,
+)
     c.is_quoted_specials.ensures
-

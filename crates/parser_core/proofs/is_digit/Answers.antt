@@ -6,4 +6,3 @@ returns-then-c-ge48 c = simp (le-leb _ _ c.if-c-ge48.true)
 
 pub returns-else-c-ge48 : goal.returns-else-c-ge48
 returns-else-c-ge48 c = simp (lt-leb _ _ c.if-c-ge48.false)
-

@@ -6,4 +6,3 @@ returns-then-c-eq37 c = simp (eq-eqb _ _ c.if-c-eq37.true)
 
 pub returns-else-c-eq37 : goal.returns-else-c-eq37
 returns-else-c-eq37 c = simp (ne_eqb _ _ c.if-c-eq37.false)
-

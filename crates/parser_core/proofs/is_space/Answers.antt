@@ -6,4 +6,3 @@ returns-then-c-eq32 c = simp (eq-eqb _ _ c.if-c-eq32.true)
 
 pub returns-else-c-eq32 : goal.returns-else-c-eq32
 returns-else-c-eq32 c = simp (ne_eqb _ _ c.if-c-eq32.false)
-

@@ -16,4 +16,3 @@ returns-then-c-eq13 c = simp (ne_eqb _ _ c.if-c-eq0.false, eq-eqb _ _ c.if-c-eq1
 pub returns : goal.returns
 returns c = let b = c.args.c in
     rw (ne_eqb b 0 c.if-c-eq0.false) (rw (ne_eqb b 13 c.if-c-eq13.false) refl)
-

@@ -1,4 +1,3 @@
-use borrow.Author.Rules.{rules}
 use Rattle.parser_core.proofs.Headers.{line}
 use Rattle.parser_core.proofs.line_end.Goals as goal
 
@@ -16,4 +15,3 @@ returns-then-s-lf-ne10 c = search line
 
 pub returns : goal.returns
 returns c = search line
-

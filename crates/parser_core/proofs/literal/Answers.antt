@@ -1,4 +1,3 @@
-use borrow.Author.Rules.{rules}
 use Rattle.parser_core.proofs.Headers.{literals}
 use Rattle.parser_core.proofs.literal.Goals as goal
 
@@ -19,4 +18,3 @@ returns-then-s-end c = search literals
 
 pub returns : goal.returns
 returns c = search literals
-

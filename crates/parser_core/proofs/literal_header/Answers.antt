@@ -1,4 +1,3 @@
-use borrow.Author.Rules.{rules}
 use Rattle.parser_core.proofs.Headers.{heading, count_ends, count_room}
 use Rattle.parser_core.proofs.literal_header.Goals as goal
 
@@ -22,4 +21,3 @@ line_end-requires c = count_room c.found_next-next.ensures c.if-d-ge-FAILED.fals
 
 pub returns : goal.returns
 returns c = search heading
-

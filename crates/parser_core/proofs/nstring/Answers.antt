@@ -1,4 +1,3 @@
-use borrow.Author.Rules.{rules}
 use Rattle.grammar.specs.Core.{nstring}
 use Rattle.table.proofs.Opens.{hungry}
 use Rattle.parser_core.proofs.Search.{firsts}
@@ -22,4 +21,3 @@ returns-then-b-eq123 c = search firsts
 
 pub returns : goal.returns
 returns c = search firsts
-

@@ -1,4 +1,3 @@
-use borrow.Author.Rules.{rules}
 use Rattle.parser_core.proofs.Numbers.{number_stops, number_ends, number_done}
 use Rattle.table.proofs.Search.{reads}
 use Rattle.parser_core.proofs.number.Goals as goal
@@ -17,4 +16,3 @@ leaf-requires c = search (number_stops, number_ends, number_done, reads)
 
 pub returns : goal.returns
 returns c = search (number_stops, number_ends, number_done, reads)
-

@@ -1,4 +1,3 @@
-use borrow.Author.Rules.{rules}
 use Rattle.parser_core.proofs.Numbers.{number_64_short, number_64_wrong, number_64_ends, number_64_done}
 use Rattle.table.proofs.Search.{reads}
 use Rattle.parser_core.proofs.number_64.Goals as goal
@@ -20,4 +19,3 @@ returns-in-Short c = search (number_64_short, number_64_wrong, number_64_ends, n
 
 pub returns-in-Wrong : goal.returns-in-Wrong
 returns-in-Wrong c = search (number_64_short, number_64_wrong, number_64_ends, number_64_done, reads)
-

@@ -1,4 +1,3 @@
-use borrow.Author.Rules.{rules}
 use Rattle.parser_core.proofs.Tags.{option}
 use Rattle.parser_core.proofs.opt_space.Goals as goal
 
@@ -7,4 +6,3 @@ returns-then-q c = search option
 
 pub returns-else-q : goal.returns-else-q
 returns-else-q c = search option
-

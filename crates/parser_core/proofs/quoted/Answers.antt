@@ -1,4 +1,3 @@
-use borrow.Author.Rules.{rules}
 use Rattle.grammar.specs.Core.{quoted}
 use Rattle.table.proofs.Opens.{hungry}
 use Rattle.parser_core.proofs.Search.{firsts}
@@ -16,4 +15,3 @@ returns-then-s-i-ne34 c = search firsts
 
 pub quoted_from-requires : goal.quoted_from-requires
 quoted_from-requires c = search firsts
-

@@ -1,4 +1,4 @@
-use Rattle.parser_core.proofs.Quoting.{Quoting, quoting, closing, quotes_wrong}
+use Rattle.parser_core.proofs.Quoting.{quoting, closing, quotes_wrong}
 use Rattle.parser_core.proofs.quoted_end.Goals as goal
 use Rattle.parser_core.proofs.quoted_end.Goals.{then-b-eq34, else-b-eq34+else-b-eq92+else-is_text_char, else-b-eq34+then-b-eq92+else-s-j+else-is_quoted_specials}
 
@@ -59,16 +59,16 @@ overflow_add-result c = search quoting
 pub returns-then-s-i-eq34 : goal.returns-then-s-i-eq34
 returns-then-s-i-eq34 c =
     elim c.if-b-eq34.branch [
-      then-b-eq34 w ↦ search closing
-    | else-b-eq34+else-b-eq92+else-is_text_char w ↦ search closing
-    | else-b-eq34+then-b-eq92+else-s-j+else-is_quoted_specials w ↦ search closing
+      | then-b-eq34 w ↦ search closing
+      | else-b-eq34+else-b-eq92+else-is_text_char w ↦ search closing
+      | else-b-eq34+then-b-eq92+else-s-j+else-is_quoted_specials w ↦ search closing
     ]
 
 pub returns-else-s-i-eq34 : goal.returns-else-s-i-eq34
 returns-else-s-i-eq34 c =
     quotes_wrong c.if-s-i-eq34.false
     (elim c.if-b-eq34.branch [
-      then-b-eq34 w ↦ search closing
-    | else-b-eq34+else-b-eq92+else-is_text_char w ↦ search closing
-    | else-b-eq34+then-b-eq92+else-s-j+else-is_quoted_specials w ↦ search closing
+      | then-b-eq34 w ↦ search closing
+      | else-b-eq34+else-b-eq92+else-is_text_char w ↦ search closing
+      | else-b-eq34+then-b-eq92+else-s-j+else-is_quoted_specials w ↦ search closing
     ])

@@ -1,7 +1,6 @@
 use Prim.Native.Nat.{◌-◌, ◌≤◌}
-use mathlib.Core.Logic.{⊎_elim}
 use lib.ListN.{length}
-use Rattle.parser_core.proofs.Quoting.{Quoting, quoting, closing, quotes_wrong}
+use Rattle.parser_core.proofs.Quoting.{Quoting}
 use Rattle.parser_core.proofs.quoted_end.Given as goal
 
 abbrev pub invariant-loop-i : goal.invariant-loop-i

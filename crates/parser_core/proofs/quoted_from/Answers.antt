@@ -1,4 +1,3 @@
-use borrow.Author.Rules.{rules}
 use Rattle.parser_core.proofs.Quoting.{quoteds}
 use Rattle.parser_core.proofs.quoted_from.Goals as goal
 
@@ -16,4 +15,3 @@ leaf-requires c = search quoteds
 
 pub returns : goal.returns
 returns c = search quoteds
-

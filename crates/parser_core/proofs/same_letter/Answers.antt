@@ -1,4 +1,3 @@
-use borrow.Author.Rules.{rules}
 use Rattle.parser_core.proofs.Tags.{letters}
 use Rattle.parser_core.proofs.same_letter.Goals as goal
 
@@ -7,4 +6,3 @@ returns-then-a-b c = search letters
 
 pub returns : goal.returns
 returns c = rw (c.to_upper.ensures, c.to_upper-2.ensures)
-

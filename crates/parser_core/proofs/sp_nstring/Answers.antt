@@ -1,4 +1,3 @@
-use borrow.Author.Rules.{rules}
 use Rattle.grammar.specs.Notation.{sp}
 use Rattle.table.proofs.Search.{line}
 use Rattle.parser_core.proofs.sp_nstring.Goals as goal
@@ -10,4 +9,3 @@ returns-then-r-ge-FAILED c = search line
 pub returns : goal.returns
 unfolding sp
 returns c = search line
-

@@ -1,4 +1,3 @@
-use borrow.Author.Rules.{rules}
 use Rattle.grammar.specs.Notation.{space0}
 use Rattle.parser_core.proofs.Search.{runs}
 use Rattle.parser_core.proofs.space0.Goals as goal
@@ -20,4 +19,3 @@ moved-requires c = search runs
 pub returns : goal.returns
 unfolding space0
 returns c = search runs
-

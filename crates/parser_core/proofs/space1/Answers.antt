@@ -1,4 +1,3 @@
-use borrow.Author.Rules.{rules}
 use Rattle.grammar.specs.Notation.{space1}
 use Rattle.parser_core.proofs.Search.{runs}
 use Rattle.parser_core.proofs.space1.Goals as goal
@@ -24,4 +23,3 @@ moved-requires c = search runs
 pub returns : goal.returns
 unfolding space1
 returns c = search runs
-

@@ -1,4 +1,3 @@
-use borrow.Author.Rules.{rules}
 use Rattle.grammar.specs.Core.{string}
 use Rattle.table.proofs.Opens.{hungry}
 use Rattle.parser_core.proofs.Search.{firsts}
@@ -19,4 +18,3 @@ returns-then-s-i-eq34 c = search firsts
 
 pub returns : goal.returns
 returns c = search firsts
-

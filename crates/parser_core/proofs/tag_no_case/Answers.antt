@@ -1,7 +1,5 @@
 use borrow.Author.Rules.{rules}
-use Prim.Native.Nat.{◌-◌}
-use lib.ListN.{length}
-use Rattle.parser_core.proofs.Tags.{Tagging, word, tag_agrees}
+use Rattle.parser_core.proofs.Tags.{word, tag_agrees}
 use Rattle.parser_core.proofs.tag_no_case.Goals as goal
 
 pub returns-then-c-ge-FAILED : goal.returns-then-c-ge-FAILED
@@ -45,4 +43,3 @@ past-requires c = search word
 
 pub returns : goal.returns
 returns c = search word
-

@@ -1,7 +1,6 @@
-use borrow.Author.Rules.{rules}
 use Prim.Native.Nat.{◌-◌}
 use lib.ListN.{length}
-use Rattle.parser_core.proofs.Tags.{Tagging, word, tag_agrees}
+use Rattle.parser_core.proofs.Tags.{Tagging}
 use Rattle.parser_core.proofs.tag_no_case.Given as goal
 
 abbrev pub invariant-loop-j : goal.invariant-loop-j

@@ -1,4 +1,3 @@
-use borrow.Author.Rules.{rules}
 use Rattle.parser_core.proofs.Leaves.{run0_node_fails, run0_node, run0_few, run0_word}
 use Rattle.grammar.specs.Core.{text}
 use Rattle.table.proofs.Bounds.{spares_none}
@@ -25,4 +24,3 @@ leaf-requires c = search (run0_few, spares_none, reads)
 pub returns : goal.returns
 unfolding text
 returns c = search (run0_node_fails, run0_node, spares_none, reads)
-

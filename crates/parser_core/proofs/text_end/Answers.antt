@@ -1,7 +1,4 @@
-use Prim.Native.Nat.{◌-◌}
-use lib.ListN.{length}
-use Rattle.grammar.specs.Scan.{text_chars}
-use Rattle.parser_core.proofs.Runs.{Running, running}
+use Rattle.parser_core.proofs.Runs.{running}
 use Rattle.parser_core.proofs.text_end.Goals as goal
 
 pub loop-i-init : goal.loop-i-init
@@ -27,4 +24,3 @@ returns-else-is_text_char c = search running
 
 pub returns : goal.returns
 returns c = search running
-

@@ -1,7 +1,7 @@
 use Prim.Native.Nat.{◌-◌}
 use lib.ListN.{length}
 use Rattle.grammar.specs.Scan.{text_chars}
-use Rattle.parser_core.proofs.Runs.{Running, running}
+use Rattle.parser_core.proofs.Runs.{Running}
 use Rattle.parser_core.proofs.text_end.Given as goal
 
 abbrev pub invariant-loop-i : goal.invariant-loop-i

@@ -1,4 +1,3 @@
-use borrow.Author.Rules.{rules}
 use borrow.Author.Tests.{le-leb, lt-leb}
 use Rattle.parser_core.proofs.to_upper.Goals as goal
 
@@ -10,4 +9,3 @@ returns-then-c-gt122 c = simp (le-leb _ _ c.if-c-lt97.false, lt-leb _ _ c.if-c-g
 
 pub returns : goal.returns
 returns c = simp (le-leb _ _ c.if-c-lt97.false, le-leb _ _ c.if-c-gt122.false)
-

@@ -1,7 +1,5 @@
-use Prim.Native.Nat.{◌-◌}
-use lib.ListN.{length}
 use borrow.Author.Rules.{rules}
-use Rattle.parser_core.proofs.Numbers.{Overrunning, over_starts, over_on, over_ends, over_short}
+use Rattle.parser_core.proofs.Numbers.{over_starts, over_on, over_ends, over_short}
 use Rattle.parser_core.proofs.too_large.Goals as goal
 
 pub loop-i-init : goal.loop-i-init
@@ -15,4 +13,3 @@ returns-else-is_digit c = search (over_ends, rules)
 
 pub returns : goal.returns
 returns c = search (over_short, rules)
-

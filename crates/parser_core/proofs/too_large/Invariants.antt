@@ -1,7 +1,6 @@
 use Prim.Native.Nat.{◌-◌}
 use lib.ListN.{length}
-use borrow.Author.Rules.{rules}
-use Rattle.parser_core.proofs.Numbers.{Overrunning, over_starts, over_on, over_ends, over_short}
+use Rattle.parser_core.proofs.Numbers.{Overrunning}
 use Rattle.parser_core.proofs.too_large.Given as goal
 
 abbrev pub invariant-loop-i : goal.invariant-loop-i

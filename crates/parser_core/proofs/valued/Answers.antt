@@ -4,4 +4,3 @@ use Rattle.parser_core.proofs.valued.Goals as goal
 
 pub returns-in-Fits : goal.returns-in-Fits
 returns-in-Fits c = search (valued_fits, rules)
-

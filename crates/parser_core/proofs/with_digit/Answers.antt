@@ -10,4 +10,3 @@ returns-then-largest-d c = search (digit_large, rules)
 
 pub returns : goal.returns
 returns c = search (digit_fits, rules)
-

@@ -1,6 +1,4 @@
-use borrow.Author.Rules.{rules}
-use Prim.Native.Nat.{◌-◌}
-use Rattle.reader.proofs.Copies.{Copied, copied_none, copied_more, copied_all}
+use Rattle.reader.proofs.Copies.{copied_none, copied_more, copied_all}
 use Rattle.reader.proofs.copy_front.Goals as goal
 
 pub loop-i-init : goal.loop-i-init
@@ -11,4 +9,3 @@ loop-i-preserved c = copied_more c.requires.0 c.requires.1 c.loop-i-test.true c.
 
 pub returns : goal.returns
 returns c = copied_all c.loop-i-test.false c.loop-i.invariant
-

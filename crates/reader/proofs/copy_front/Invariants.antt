@@ -1,6 +1,5 @@
-use borrow.Author.Rules.{rules}
 use Prim.Native.Nat.{◌-◌}
-use Rattle.reader.proofs.Copies.{Copied, copied_none, copied_more, copied_all}
+use Rattle.reader.proofs.Copies.{Copied}
 use Rattle.reader.proofs.copy_front.Given as goal
 
 abbrev pub invariant-loop-i : goal.invariant-loop-i

@@ -10,4 +10,3 @@ returns-then-q-eq-DEEP c = search (fails_deep, rules)
 
 pub returns : goal.returns
 returns c = search (fails_more, rules)
-

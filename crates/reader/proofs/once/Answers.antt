@@ -1,7 +1,7 @@
 use borrow.Author.Rules.{rules}
 use native.Mathlib.Omega.{arith}
 use Rattle.grammar.specs.Rules.{rule}
-use Rattle.grammar.specs.Reading.{deepest_level, last_rule}
+use Rattle.grammar.specs.Reading.{deepest_level}
 use Rattle.table.proofs.Depth.{plain, at_depth}
 use Rattle.table.proofs.Whole.{stands_first, stands_one}
 use Rattle.reader.proofs.once.Goals as goal
@@ -208,5 +208,4 @@ returns-in-25 c = rw c.in-25.is c.msg_att_body_structure.ensures
 
 pub returns-in_default : goal.returns-in_default
 unfolding rule plain
-returns-in_default c = absurd (omega (arith, c.requires.le_number.0, c.requires.le_number.1))
-
+returns-in_default c = absurd (omega (arith, c.requires.known_rule.0, c.requires.known_rule.1))

@@ -1,4 +1,3 @@
-use borrow.Author.Rules.{rules}
 use native.Mathlib.Omega.{arith}
 use mathlib.Core.Path.{refl}
 use mathlib.Core.List.{[], ◌∷◌}
@@ -17,4 +16,3 @@ returns-then-out-ge4 c = record { value = refl; out_after = written (c.args.answ
 
 pub returns-else-out-ge4 : goal.returns-else-out-ge4
 returns-else-out-ge4 c = record { value = refl; out_after = not_written (c.args.answer ∷ c.args.taken ∷ c.args.nodes ∷ c.args.wanted ∷ []) c.args.out.now c.if-out-ge4.false }
-

@@ -7,4 +7,3 @@ returns-in_default c = unknown (omega arith)
 
 pub returns-in_default-2 : goal.returns-in_default-2
 returns-in_default-2 c = past_the_last (omega arith) (omega arith)
-

@@ -15,5 +15,4 @@ pub returns-then-k-scratch : goal.returns-then-k-scratch
 returns-then-k-scratch c = search (copied, known_by, rules)
 
 pub returns-else-k-scratch : goal.returns-else-k-scratch
-returns-else-k-scratch c = passed_again (known_by c.requires.le_number c.requires.s_in_bounds) c.once-q.ensures c.if-q-ge-FAILED.false c.nodes-nodes.ensures c.place-taken.ensures c.if-t-nodes.false c.once.ensures
-
+returns-else-k-scratch c = passed_again (known_by c.requires.known_rule c.requires.in_limit) c.once-q.ensures c.if-q-ge-FAILED.false c.nodes-nodes.ensures c.place-taken.ensures c.if-t-nodes.false c.once.ensures

@@ -4,4 +4,3 @@ use Rattle.reader.proofs.read_known.Goals as goal
 
 pub returns-then-s-gt-LENGTH_LIMIT : goal.returns-then-s-gt-LENGTH_LIMIT
 returns-then-s-gt-LENGTH_LIMIT c = search (too_long, rules)
-

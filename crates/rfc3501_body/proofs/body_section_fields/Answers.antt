@@ -10,4 +10,3 @@ opt_index-r-requires c = search (hands_on, rules)
 
 pub returns : goal.returns
 returns c = c.tag_no_case-r.ensures.on _ ▸ c.section-r.ensures ▸ c.opt_index-r.ensures ▸▸ c.sp_nstring.ensures
-

@@ -15,4 +15,3 @@ shape_of-t c = search line
 
 pub returns : goal.returns
 returns c = search line
-

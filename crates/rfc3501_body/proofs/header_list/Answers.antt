@@ -35,4 +35,3 @@ moved-requires c = search drops
 pub returns : goal.returns
 unfolding paid parenthesized_list astring
 returns c = search drops
-

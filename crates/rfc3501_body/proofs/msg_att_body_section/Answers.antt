@@ -46,4 +46,3 @@ shape_of-t c = search structure
 pub returns : goal.returns
 unfolding paid msg_att_body_section
 returns c = search structure
-

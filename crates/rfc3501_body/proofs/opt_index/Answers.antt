@@ -29,4 +29,3 @@ shape_of-t c = search either
 pub returns : goal.returns
 unfolding opt
 returns c = search either
-

@@ -17,4 +17,3 @@ returns-then-r c = search either
 pub returns : goal.returns
 unfolding skip_opt
 returns c = search either
-

@@ -47,4 +47,3 @@ shape_of-t c = search structure
 pub returns : goal.returns
 unfolding paid opt section_part section_text
 returns c = search structure
-

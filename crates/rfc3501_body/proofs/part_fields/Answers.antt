@@ -19,4 +19,3 @@ shape_of-t c = search line
 pub returns : goal.returns
 unfolding leaves_of section_part
 returns c = search line
-

@@ -23,4 +23,3 @@ shape_of-t c = search line
 pub returns : goal.returns
 unfolding leaves_of section
 returns c = search line
-

@@ -41,4 +41,3 @@ shape_of-t c = search either
 pub returns : goal.returns
 unfolding section_msgtext
 returns c = search either
-

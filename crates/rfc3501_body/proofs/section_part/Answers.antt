@@ -1,12 +1,6 @@
-use Prim.Native.Nat.{◌-◌}
-use lib.ListN.{length}
-use Rattle.table.specs.Cursor.{step, place_of}
 use Rattle.table.proofs.Bounds.{paid, item}
 use Rattle.table.proofs.Trees.{lone}
-use Rattle.table.proofs.Lists.{Turns}
 use Rattle.table.proofs.Search.{list}
-use Rattle.grammar.specs.Notation.{◌⋯◌, exact}
-use Rattle.grammar.specs.Core.{number}
 use Rattle.grammar.specs.Body.{section_part}
 use Rattle.rfc3501_body.proofs.section_part.Goals as goal
 
@@ -97,4 +91,3 @@ loop-t-smaller c = search list
 pub loop-t-preserved : goal.loop-t-preserved
 unfolding item lone paid section_part
 loop-t-preserved c = search list
-

@@ -1,12 +1,9 @@
 use Prim.Native.Nat.{◌-◌}
 use lib.ListN.{length}
 use Rattle.table.specs.Cursor.{step, place_of}
-use Rattle.table.proofs.Bounds.{paid, item}
-use Rattle.table.proofs.Trees.{lone}
 use Rattle.table.proofs.Lists.{Turns}
 use Rattle.grammar.specs.Notation.{◌⋯◌, exact}
 use Rattle.grammar.specs.Core.{number}
-use Rattle.grammar.specs.Body.{section_part}
 use Rattle.rfc3501_body.proofs.section_part.Given as goal
 
 abbrev pub invariant-loop-t : goal.invariant-loop-t

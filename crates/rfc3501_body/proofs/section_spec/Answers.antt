@@ -29,4 +29,3 @@ shape_of-t c = search either
 pub returns : goal.returns
 unfolding section_spec
 returns c = search either
-

@@ -29,4 +29,3 @@ shape_of-t c = search either
 pub returns : goal.returns
 unfolding section_text
 returns c = search either
-

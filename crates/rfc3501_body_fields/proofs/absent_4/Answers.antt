@@ -19,4 +19,3 @@ shape_of-t c = search line
 pub returns : goal.returns
 unfolding leaves_of absents
 returns c = search line
-

@@ -42,4 +42,3 @@ shape_of-t c = search by_paren
 pub returns : goal.returns
 unfolding hungry body_disposition
 returns c = search by_paren
-

@@ -29,4 +29,3 @@ shape_of-t c = search either
 pub returns : goal.returns
 unfolding body_encoding
 returns c = search either
-

@@ -41,4 +41,3 @@ shape_of-t c = search either
 pub returns : goal.returns
 unfolding body_lang
 returns c = search either
-

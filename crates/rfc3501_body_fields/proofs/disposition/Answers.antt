@@ -48,4 +48,3 @@ shape_of-t c = search structure
 pub returns : goal.returns
 unfolding paid sp opening closing string body_param
 returns c = search structure
-

@@ -29,4 +29,3 @@ shape_of-t c = search line
 pub returns : goal.returns
 unfolding sp opening closing
 returns c = search line
-

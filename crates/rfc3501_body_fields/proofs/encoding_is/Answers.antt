@@ -18,4 +18,3 @@ shape_of-t c = search line
 pub returns : goal.returns
 unfolding leaves_of
 returns c = search line
-

@@ -21,4 +21,3 @@ shape_of-t c = search line
 pub returns : goal.returns
 unfolding known_encoding
 returns c = search line
-

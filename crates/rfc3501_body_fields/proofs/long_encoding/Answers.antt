@@ -37,4 +37,3 @@ shape_of-t c = search either
 pub returns : goal.returns
 unfolding encoding_is
 returns c = search either
-

@@ -55,4 +55,3 @@ shape_of-t c = search single
 pub returns : goal.returns
 unfolding lone paid string
 returns c = search single
-

@@ -47,4 +47,3 @@ shape_of-t c = search structure
 pub returns : goal.returns
 unfolding paid sp string
 returns c = search structure
-

@@ -12,4 +12,3 @@ shape_of-t c = search line
 
 pub returns : goal.returns
 returns c = search line
-

@@ -1,12 +1,10 @@
 use Prim.Native.Nat.{◌-◌}
 use lib.ListN.{length}
 use Rattle.table.specs.Cursor.{step, place_of}
-use Rattle.table.proofs.Bounds.{paid, item}
-use Rattle.table.proofs.Trees.{lone}
 use Rattle.table.proofs.Lists.{Turns}
 use Rattle.grammar.specs.Kinds.{kind_pair}
 use Rattle.grammar.specs.Grammar.{does, node}
-use Rattle.grammar.specs.Notation.{◌⋯◌, sp, separated_list1}
+use Rattle.grammar.specs.Notation.{◌⋯◌, sp}
 use Rattle.grammar.specs.Core.{string}
 use Rattle.rfc3501_body_fields.proofs.params.Given as goal
 

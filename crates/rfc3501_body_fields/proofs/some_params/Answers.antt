@@ -25,4 +25,3 @@ shape_of-t c = search line
 pub returns : goal.returns
 unfolding parenthesized_nonempty_list
 returns c = search line
-

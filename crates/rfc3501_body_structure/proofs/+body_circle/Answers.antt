@@ -138,4 +138,3 @@ sp_body-returns-then-r-ge-FAILED t c = search levels_line
 pub sp_body-returns : goal.sp_body-returns
 unfolding item lone paid plain hungry leaves_of sp many1 paren_delimited number string message_fields body_type_text body_type_message body_type_basic body_type_multipart
 sp_body-returns t c = search levels_line
-

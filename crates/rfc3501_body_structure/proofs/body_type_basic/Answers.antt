@@ -1,4 +1,3 @@
-use borrow.Author.Rules.{rules}
 use Rattle.grammar.specs.BodyStructure.{body_type_basic}
 use Rattle.table.proofs.Bounds.{paid}
 use Rattle.table.proofs.Search.{structure}
@@ -15,4 +14,3 @@ basic_fields-r-requires c = search structure
 pub returns : goal.returns
 unfolding paid body_type_basic
 returns c = search structure
-

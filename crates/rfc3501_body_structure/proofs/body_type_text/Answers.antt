@@ -1,4 +1,3 @@
-use borrow.Author.Rules.{rules}
 use Rattle.grammar.specs.BodyStructure.{body_type_text}
 use Rattle.table.proofs.Bounds.{paid}
 use Rattle.table.proofs.Search.{structure}
@@ -15,4 +14,3 @@ text_fields-r-requires c = search structure
 pub returns : goal.returns
 unfolding paid body_type_text
 returns c = search structure
-

@@ -1,4 +1,3 @@
-use borrow.Author.Rules.{rules}
 use Rattle.table.proofs.Search.{first_skims}
 use Rattle.table.proofs.Going.{◌▸◌, ◌▹◌, ◌▸▸◌, early}
 use Rattle.grammar.specs.BodyStructure.{message_fields}
@@ -11,4 +10,3 @@ returns-then-r-ge-FAILED c = search (early, first_skims) depth 9
 pub returns : goal.returns
 unfolding message_fields
 returns c = c.tag_no_case-r.ensures.on _ ▸▸ c.sp_body_fields-r.ensures ▹ c.char-r.ensures ▸ c.envelope.ensures
-

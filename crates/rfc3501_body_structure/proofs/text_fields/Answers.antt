@@ -1,4 +1,3 @@
-use borrow.Author.Rules.{rules}
 use Rattle.grammar.specs.Core.{string, number}
 use Rattle.grammar.specs.BodyStructure.{body_fields}
 use Rattle.grammar.specs.Notation.{sp}
@@ -14,4 +13,3 @@ body_ext_1part-requires c = search spare
 pub returns : goal.returns
 unfolding leaves_of sp string number body_fields plain
 returns c = search levels_line
-

@@ -1,6 +1,5 @@
-use borrow.Author.Rules.{rules}
 use Rattle.table.proofs.Search.{first_skims}
-use Rattle.table.proofs.Going.{◌▸◌, ◌▸▸◌, early}
+use Rattle.table.proofs.Going.{◌▸▸◌, early}
 use Rattle.grammar.specs.Notation.{sp}
 use Rattle.rfc3501_body_structure.proofs.text_lines.Goals as goal
 
@@ -11,4 +10,3 @@ returns-then-r-ge-FAILED c = search (early, first_skims) depth 9
 pub returns : goal.returns
 unfolding sp
 returns c = c.tag_no_case-r.ensures.on _ ▸▸ c.sp_string-r.ensures ▸▸ c.sp_body_fields-r.ensures ▸▸ c.sp_number.ensures
-

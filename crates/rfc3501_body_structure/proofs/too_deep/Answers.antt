@@ -1,4 +1,3 @@
-use borrow.Author.Rules.{rules}
 use Rattle.rfc3501_body_structure.proofs.First.{bodies}
 use Rattle.rfc3501_body_structure.proofs.too_deep.Goals as goal
 
@@ -10,4 +9,3 @@ returns-then-r-ge-FAILED c = search bodies
 
 pub returns : goal.returns
 returns c = search bodies
-

@@ -1,4 +1,3 @@
-use borrow.Author.Rules.{rules}
 use Rattle.grammar.specs.Notation.{sp, opening, closing}
 use Rattle.table.proofs.Search.{first_skims}
 use Rattle.table.proofs.Going.{early, ◌▸◌, ◌▹◌, ◌▸▸◌}
@@ -11,4 +10,3 @@ returns-then-r-ge-FAILED c = search (early, first_skims) depth 9
 pub returns : goal.returns
 unfolding sp opening closing
 returns c = c.char-r.ensures.on _ ▸ c.nstring-r.ensures ▸▸ c.sp_nstring-r.ensures ▸▸ c.sp_nstring-r-2.ensures ▸▸ c.sp_nstring-r-3.ensures ▹ c.char.ensures
-

@@ -1,10 +1,8 @@
 use Prim.Native.Nat.{◌-◌}
 use lib.ListN.{length}
 use Rattle.table.specs.Cursor.{step, place_of}
-use Rattle.table.proofs.Bounds.{paid, item}
-use Rattle.table.proofs.Trees.{lone}
 use Rattle.table.proofs.Lists.{Turns}
-use Rattle.grammar.specs.Notation.{◌⋯◌, sp, skip_opt, many1}
+use Rattle.grammar.specs.Notation.{◌⋯◌, sp, skip_opt}
 use Rattle.grammar.specs.Envelope.{address}
 use Rattle.rfc3501_envelope.proofs.addresses.Given as goal
 

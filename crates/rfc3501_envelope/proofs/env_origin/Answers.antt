@@ -1,4 +1,3 @@
-use borrow.Author.Rules.{rules}
 use Rattle.table.proofs.Going.{◌▸▸◌}
 use Rattle.grammar.specs.Envelope.{env_origin}
 use Rattle.rfc3501_envelope.proofs.env_origin.Goals as goal
@@ -6,4 +5,3 @@ use Rattle.rfc3501_envelope.proofs.env_origin.Goals as goal
 pub returns : goal.returns
 unfolding env_origin
 returns c = c.nstring-r.ensures ▸▸ c.sp_nstring-r.ensures ▸▸ c.sp_opt_addresses-r.ensures ▸▸ c.sp_opt_addresses.ensures
-

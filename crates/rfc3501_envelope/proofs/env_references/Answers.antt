@@ -1,4 +1,3 @@
-use borrow.Author.Rules.{rules}
 use Rattle.grammar.specs.Envelope.{env_references}
 use Rattle.table.proofs.Search.{line}
 use Rattle.rfc3501_envelope.proofs.env_references.Goals as goal
@@ -6,4 +5,3 @@ use Rattle.rfc3501_envelope.proofs.env_references.Goals as goal
 pub returns : goal.returns
 unfolding env_references
 returns c = search line
-

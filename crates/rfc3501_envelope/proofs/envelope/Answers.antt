@@ -1,4 +1,3 @@
-use borrow.Author.Rules.{rules}
 use Rattle.grammar.specs.Envelope.{envelope}
 use Rattle.table.proofs.Bounds.{paid}
 use Rattle.table.proofs.Search.{structure}
@@ -13,4 +12,3 @@ envelope_fields-r-requires c = search structure
 pub returns : goal.returns
 unfolding paid envelope
 returns c = search structure
-

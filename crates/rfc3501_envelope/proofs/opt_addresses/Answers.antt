@@ -1,4 +1,3 @@
-use borrow.Author.Rules.{rules}
 use Rattle.rfc3501_envelope.proofs.First.{firsts}
 use Rattle.grammar.specs.Envelope.{opt_addresses}
 use Rattle.table.proofs.Opens.{hungry}
@@ -16,4 +15,3 @@ returns-then-s-i-eq40 c = search firsts
 
 pub returns : goal.returns
 returns c = search firsts
-

@@ -1,4 +1,3 @@
-use borrow.Author.Rules.{rules}
 use Rattle.grammar.specs.Notation.{sp}
 use Rattle.table.proofs.Search.{line}
 use Rattle.rfc3501_envelope.proofs.sp_opt_addresses.Goals as goal
@@ -10,4 +9,3 @@ returns-then-r-ge-FAILED c = search line
 pub returns : goal.returns
 unfolding sp
 returns c = search line
-

@@ -75,4 +75,3 @@ sp_extension-returns-then-r-ge-FAILED t c = search levels_line
 pub sp_extension-returns : goal.sp_extension-returns
 unfolding item lone paid plain hungry separated_list1 sp body_extension extension_list
 sp_extension-returns t c = search levels_line
-

@@ -1,4 +1,3 @@
-use borrow.Author.Rules.{rules}
 use Rattle.rfc3501_extension.specs.Tails.{from_dsp}
 use Rattle.grammar.specs.BodyStructure.{body_ext_1part}
 use Rattle.table.proofs.Depth.{plain}
@@ -16,4 +15,3 @@ returns-then-r c = search levels_either
 pub returns : goal.returns
 unfolding plain body_ext_1part from_dsp
 returns c = search levels_either
-

@@ -1,4 +1,3 @@
-use borrow.Author.Rules.{rules}
 use Rattle.grammar.specs.BodyStructure.{body_disposition}
 use Rattle.grammar.specs.Notation.{sp}
 use Rattle.table.proofs.Bounds.{leaves_of}
@@ -13,4 +12,3 @@ from_lang-requires c = search spare
 pub returns : goal.returns
 unfolding leaves_of body_disposition plain sp
 returns c = search levels_line
-

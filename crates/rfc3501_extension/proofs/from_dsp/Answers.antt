@@ -1,4 +1,3 @@
-use borrow.Author.Rules.{rules}
 use Rattle.rfc3501_extension.specs.Tails.{from_dsp}
 use Rattle.table.proofs.Depth.{plain}
 use Rattle.table.proofs.Search.{levels_either}
@@ -15,4 +14,3 @@ returns-then-r c = search levels_either
 pub returns : goal.returns
 unfolding plain from_dsp
 returns c = search levels_either
-

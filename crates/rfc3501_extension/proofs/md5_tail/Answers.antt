@@ -1,4 +1,3 @@
-use borrow.Author.Rules.{rules}
 use Rattle.grammar.specs.Core.{nstring}
 use Rattle.grammar.specs.Notation.{sp}
 use Rattle.table.proofs.Bounds.{leaves_of}
@@ -13,4 +12,3 @@ from_dsp-requires c = search spare
 pub returns : goal.returns
 unfolding leaves_of sp nstring plain
 returns c = search levels_line
-

@@ -14,4 +14,3 @@ from_dsp-requires c = search (spare_pair, rules)
 pub returns : goal.returns
 unfolding leaves_of sp body_param plain
 returns c = search levels_line
-

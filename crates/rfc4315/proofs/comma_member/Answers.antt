@@ -1,4 +1,3 @@
-use borrow.Author.Rules.{rules}
 use Rattle.table.proofs.Search.{line}
 use Rattle.rfc4315.proofs.comma_member.Goals as goal
 
@@ -7,4 +6,3 @@ returns-then-r-ge-FAILED c = search line
 
 pub returns : goal.returns
 returns c = search line
-

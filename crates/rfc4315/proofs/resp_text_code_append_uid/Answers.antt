@@ -1,4 +1,3 @@
-use borrow.Author.Rules.{rules}
 use Rattle.grammar.specs.Rfc4315.{resp_text_code_append_uid}
 use Rattle.table.proofs.Bounds.{paid}
 use Rattle.table.proofs.Search.{structure}
@@ -15,4 +14,3 @@ named_uids-r-requires c = search structure
 pub returns : goal.returns
 unfolding paid resp_text_code_append_uid
 returns c = search structure
-

@@ -1,4 +1,3 @@
-use borrow.Author.Rules.{rules}
 use Rattle.grammar.specs.Notation.{sp}
 use Rattle.table.proofs.Search.{line}
 use Rattle.rfc4315.proofs.sp_uid_set.Goals as goal
@@ -6,4 +5,3 @@ use Rattle.rfc4315.proofs.sp_uid_set.Goals as goal
 pub returns : goal.returns
 unfolding sp
 returns c = search line
-

@@ -1,4 +1,3 @@
-use borrow.Author.Rules.{rules}
 use Rattle.grammar.specs.Rfc4315.{uid_set_member}
 use Rattle.rfc4315.proofs.Uids.{uids}
 use Rattle.rfc4315.proofs.uid_set_member.Goals as goal
@@ -58,4 +57,3 @@ leaf-requires-2 c = search uids
 pub returns : goal.returns
 unfolding uid_set_member
 returns c = search uids
-

@@ -1,4 +1,3 @@
-use borrow.Author.Rules.{rules}
 use Rattle.grammar.specs.Rfc4551.{msg_att_mod_seq}
 use Rattle.table.proofs.Search.{line}
 use Rattle.rfc4551.proofs.msg_att_mod_seq.Goals as goal
@@ -26,4 +25,3 @@ shape_of-t c = search line
 pub returns : goal.returns
 unfolding msg_att_mod_seq
 returns c = search line
-

@@ -1,4 +1,3 @@
-use borrow.Author.Rules.{rules}
 use Rattle.grammar.specs.Rfc4551.{resp_text_code_highest_mod_seq}
 use Rattle.table.proofs.Search.{line}
 use Rattle.rfc4551.proofs.resp_text_code_highest_mod_seq.Goals as goal
@@ -18,4 +17,3 @@ shape_of-t c = search line
 pub returns : goal.returns
 unfolding resp_text_code_highest_mod_seq
 returns c = search line
-

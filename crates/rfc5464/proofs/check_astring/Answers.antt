@@ -1,4 +1,3 @@
-use borrow.Author.Rules.{rules}
 use Rattle.rfc5464.proofs.Contents.{contents}
 use Rattle.rfc5464.proofs.check_astring.Goals as goal
 
@@ -43,4 +42,3 @@ slice_bounds-check_entry_name-end-2 c = search contents
 
 pub returns : goal.returns
 returns c = search contents
-

@@ -1,6 +1,4 @@
-use borrow.Author.Rules.{rules}
-use lib.ListN.{length}
-use Rattle.rfc5464.proofs.Names.{Checking, ahead, checking_starts, stage_inside, turn_private_shared, turn_admin, turn_vendor_comment, turn_path, checked_done, checked_fail}
+use Rattle.rfc5464.proofs.Names.{checking_starts, stage_inside, turn_private_shared, turn_admin, turn_vendor_comment, turn_path, checked_done, checked_fail}
 use Rattle.rfc5464.proofs.check_entry_name.Goals as goal
 
 pub loop-stage-init : goal.loop-stage-init
@@ -47,4 +45,3 @@ returns-in-Done c = checked_done c.loop-stage.invariant c.in-Done.is
 
 pub returns-in-Fail : goal.returns-in-Fail
 returns-in-Fail c = checked_fail c.loop-stage.invariant c.in-Fail.is
-

@@ -1,6 +1,5 @@
-use borrow.Author.Rules.{rules}
 use lib.ListN.{length}
-use Rattle.rfc5464.proofs.Names.{Checking, ahead, checking_starts, stage_inside, turn_private_shared, turn_admin, turn_vendor_comment, turn_path, checked_done, checked_fail}
+use Rattle.rfc5464.proofs.Names.{Checking, ahead}
 use Rattle.rfc5464.proofs.check_entry_name.Given as goal
 
 abbrev pub invariant-loop-stage : goal.invariant-loop-stage

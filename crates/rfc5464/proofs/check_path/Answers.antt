@@ -1,7 +1,5 @@
-use Prim.Native.Nat.{◌-◌}
 use native.Mathlib.Omega.{arith}
-use lib.ListN.{length}
-use Rattle.rfc5464.proofs.Names.{Within, path_none, path_space, path_cr, path_corrupt, within_starts, within_on, within_ends, within_done}
+use Rattle.rfc5464.proofs.Names.{path_none, path_space, path_cr, path_corrupt, within_starts, within_on, within_ends, within_done}
 use Rattle.rfc5464.proofs.check_path.Goals as goal
 
 pub returns-then-name-l : goal.returns-then-name-l
@@ -45,4 +43,3 @@ returns-else-is_entry_component_char c = within_ends c.loop-i.invariant c.loop-i
 
 pub returns : goal.returns
 returns c = within_done c.loop-i.invariant c.loop-i-test.false
-

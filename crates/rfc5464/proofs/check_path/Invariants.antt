@@ -1,7 +1,6 @@
 use Prim.Native.Nat.{◌-◌}
-use native.Mathlib.Omega.{arith}
 use lib.ListN.{length}
-use Rattle.rfc5464.proofs.Names.{Within, path_none, path_space, path_cr, path_corrupt, within_starts, within_on, within_ends, within_done}
+use Rattle.rfc5464.proofs.Names.{Within}
 use Rattle.rfc5464.proofs.check_path.Given as goal
 
 abbrev pub invariant-loop-i : goal.invariant-loop-i

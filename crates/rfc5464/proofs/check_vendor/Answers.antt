@@ -28,4 +28,3 @@ returns-then-is_entry_component_char c = vendor_named (omega (arith, c.if-name-l
 
 pub returns : goal.returns
 returns c = vendor_nameless (omega (arith, c.if-name-l-lt2.false, c.requires)) c.if-name-l-ne47.false c.is_entry_component_char.ensures c.if-is_entry_component_char.false
-

@@ -1,4 +1,3 @@
-use borrow.Author.Rules.{rules}
 use Rattle.grammar.specs.Rfc5464.{entry_list}
 use Rattle.table.proofs.Search.{either}
 use Rattle.rfc5464.proofs.entry_list.Goals as goal
@@ -13,4 +12,3 @@ returns-then-r c = search either
 pub returns : goal.returns
 unfolding entry_list
 returns c = search either
-

@@ -1,4 +1,3 @@
-use borrow.Author.Rules.{rules}
 use Rattle.rfc5464.proofs.Contents.{entries}
 use Rattle.rfc5464.proofs.entry_name.Goals as goal
 
@@ -13,4 +12,3 @@ returns-then-check_astring c = search entries
 
 pub returns : goal.returns
 returns c = search entries
-

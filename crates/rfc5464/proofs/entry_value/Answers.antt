@@ -1,4 +1,3 @@
-use borrow.Author.Rules.{rules}
 use Rattle.grammar.specs.Rfc5464.{entry_value}
 use Rattle.table.proofs.Bounds.{paid}
 use Rattle.table.proofs.Search.{structure}
@@ -13,4 +12,3 @@ name_and_value-r-requires c = search structure
 pub returns : goal.returns
 unfolding paid entry_value
 returns c = search structure
-

@@ -1,10 +1,8 @@
 use Prim.Native.Nat.{◌-◌}
 use lib.ListN.{length}
 use Rattle.table.specs.Cursor.{step, place_of}
-use Rattle.table.proofs.Bounds.{paid, item}
-use Rattle.table.proofs.Trees.{lone}
 use Rattle.table.proofs.Lists.{Turns}
-use Rattle.grammar.specs.Notation.{◌⋯◌, sp, separated_list1}
+use Rattle.grammar.specs.Notation.{◌⋯◌, sp}
 use Rattle.grammar.specs.Rfc5464.{entry_value}
 use Rattle.rfc5464.proofs.entry_values.Given as goal
 

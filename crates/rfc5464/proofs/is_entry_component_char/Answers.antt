@@ -16,4 +16,3 @@ returns-then-c-eq37 c = simp (lt-ltb _ _ c.if-c-ge128.false, lt-ltb _ _ c.if-c-l
 
 pub returns : goal.returns
 returns c = component_last _ c.if-c-ge128.false c.if-c-le25.false c.if-c-eq42.false c.if-c-eq37.false
-

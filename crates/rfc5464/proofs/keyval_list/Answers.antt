@@ -1,4 +1,3 @@
-use borrow.Author.Rules.{rules}
 use Rattle.grammar.specs.Notation.{parenthesized_nonempty_list}
 use Rattle.table.proofs.Search.{line}
 use Rattle.rfc5464.proofs.keyval_list.Goals as goal
@@ -6,4 +5,3 @@ use Rattle.rfc5464.proofs.keyval_list.Goals as goal
 pub returns : goal.returns
 unfolding parenthesized_nonempty_list
 returns c = search line
-

@@ -10,4 +10,3 @@ entry_list-requires c = search (spare_after, rules)
 
 pub returns : goal.returns
 returns c = search line
-

@@ -1,4 +1,3 @@
-use borrow.Author.Rules.{rules}
 use Rattle.grammar.specs.Rfc5464.{metadata_unsolicited}
 use Rattle.table.proofs.Bounds.{paid}
 use Rattle.table.proofs.Search.{structure}
@@ -13,4 +12,3 @@ mailbox_and_names-r-requires c = search structure
 pub returns : goal.returns
 unfolding paid metadata_unsolicited
 returns c = search structure
-

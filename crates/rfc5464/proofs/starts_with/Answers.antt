@@ -1,7 +1,5 @@
-use Prim.Native.Nat.{◌-◌}
 use native.Mathlib.Omega.{arith}
-use lib.ListN.{length}
-use Rattle.rfc5464.proofs.Names.{Agreeing, agreeing_none, agreed, name_ends, bytes_differ, bytes_agree}
+use Rattle.rfc5464.proofs.Names.{agreeing_none, agreed, name_ends, bytes_differ, bytes_agree}
 use Rattle.rfc5464.proofs.starts_with.Goals as goal
 
 pub loop-j-init : goal.loop-j-init
@@ -33,4 +31,3 @@ loop-j-preserved c = bytes_agree c.loop-j.invariant c.loop-j-test.true c.if-name
 
 pub returns : goal.returns
 returns c = agreed c.loop-j.invariant c.loop-j-test.false
-

@@ -1,7 +1,6 @@
 use Prim.Native.Nat.{◌-◌}
-use native.Mathlib.Omega.{arith}
 use lib.ListN.{length}
-use Rattle.rfc5464.proofs.Names.{Agreeing, agreeing_none, agreed, name_ends, bytes_differ, bytes_agree}
+use Rattle.rfc5464.proofs.Names.{Agreeing}
 use Rattle.rfc5464.proofs.starts_with.Given as goal
 
 abbrev pub invariant-loop-j : goal.invariant-loop-j

@@ -1,4 +1,3 @@
-use borrow.Author.Rules.{rules}
 use Rattle.grammar.specs.Rfc7162.{resp_vanished}
 use Rattle.table.proofs.Search.{either}
 use Rattle.rfc7162.proofs.resp_vanished.Goals as goal
@@ -10,4 +9,3 @@ returns-then-r c = search either
 pub returns : goal.returns
 unfolding resp_vanished
 returns c = search either
-

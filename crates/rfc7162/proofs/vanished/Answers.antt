@@ -1,4 +1,3 @@
-use borrow.Author.Rules.{rules}
 use Rattle.grammar.specs.Rfc7162.{vanished}
 use Rattle.table.proofs.Bounds.{paid}
 use Rattle.table.proofs.Search.{structure}
@@ -15,4 +14,3 @@ vanished_fields-r-requires c = search structure
 pub returns : goal.returns
 unfolding paid vanished
 returns c = search structure
-
