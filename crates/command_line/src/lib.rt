@@ -169,7 +169,7 @@ fn decimal(s: &[u8]) -> Rule
 
 // The rule with this name.
 fn rule_named(s: &[u8]) -> Rule
-    ensures { result ≡ numbered (find-name rule-names s.now) }
+    ensures { result ≡ numbered (find_name rule-names s.now) }
 {
     let row = rule_name_row(s);
     if row == 0 {
@@ -180,7 +180,7 @@ fn rule_named(s: &[u8]) -> Rule
 
 // By a number, of a rule or not; or by a rule's name.
 pub fn rule_asked(s: &[u8]) -> Rule
-    ensures { result ≡ rule-asked s.now }
+    ensures { result ≡ rule_asked s.now }
 {
     match decimal(s) {
         Rule::Number(number) => Rule::Number(number),
@@ -230,7 +230,7 @@ pub fn opened(ends: &mut [usize; DEEPEST], depth: usize, end: usize) -> usize
 
 // Where a node's subtree ends; at the node itself, if the table does not say.
 pub fn subtree_end(t: &[u32], at: usize) -> usize
-    ensures { result ≡ subtree-end t.now at }
+    ensures { result ≡ subtree_end t.now at }
 {
     match walker::end_of(t, at) {
         Place::At(end) => end,
