@@ -21,7 +21,7 @@ const ENDED: usize = 1_048_576;
 const MARK: u32 = 2_863_311_530;
 
 // What a line asks for; the bytes then stand at its beginning.
-#[derive(Drop)]
+#[derive(Clone, Copy)]
 enum Asked {
     Reading { rule: u32, words: usize, len: usize },
     Bad,

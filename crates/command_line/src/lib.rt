@@ -18,14 +18,14 @@ use std::{fmt, io, str};
 use walker::Place;
 
 // A rule that was asked for by number or by name.
-#[derive(Drop)]
+#[derive(Clone, Copy)]
 pub enum Rule {
     Number(u32),
     Unknown,
 }
 
 // A file's bytes, from the buffer's beginning on; or a line on standard error has said why there are none.
-#[derive(Drop)]
+#[derive(Clone, Copy)]
 pub enum Loaded {
     Bytes(usize),
     Nothing,
@@ -169,7 +169,7 @@ fn decimal(s: &[u8]) -> Rule
 
 // The rule with this name.
 fn rule_named(s: &[u8]) -> Rule
-    ensures { result ≡ numbered (find_name rule-names s.now) }
+    ensures { result ≡ numbered (find_name rule_names s.now) }
 {
     let row = rule_name_row(s);
     if row == 0 {
@@ -730,7 +730,7 @@ fn complain_why(rt: &HostRuntime, command: &[u8], what: &[u8], name: &[u8], erro
 // ----- arguments -----
 
 // An argument's bytes, from the buffer's beginning on; or the number of the error, where it is missing or does not fit.
-#[derive(Drop)]
+#[derive(Clone, Copy)]
 pub enum Given {
     Filled(usize),
     Failed(u8),
