@@ -1,8 +1,4 @@
-use Prim.Native.Nat.{◌+◌, ◌-◌, ◌*◌, ◌≤◌, ◌<◌}
-use lib.ListN.{length}
-use mathlib.Core.Path.{◌≡◌, refl, sym, ◌∙◌}
-use Rattle.command_line.proofs.Laws.{part_counts, Undotted, undotted_starts, undotted_on, dot_found, no_dot}
-use borrow.Author.Rules.{rules}
+use Rattle.command_line.proofs.Laws.{part_counts, undotted_starts, undotted_on, dot_found, no_dot}
 use native.Mathlib.Omega.{arith}
 use Rattle.command_line.proofs.before_dot.Goals as goal
 

@@ -1,8 +1,4 @@
-use Prim.Native.Nat.{◌+◌, ◌-◌, ◌*◌, ◌/◌, ◌≤◌, ◌<◌}
-use lib.ListN.{length}
-use mathlib.Core.Path.{◌≡◌, refl, sym, ◌∙◌}
-use Rattle.command_line.proofs.Laws.{Valued, valued_starts, valued_on, valued_ends, no_digits, too_low, too_high, too_large}
-use borrow.Author.Rules.{rules}
+use Rattle.command_line.proofs.Laws.{valued_starts, valued_on, valued_ends, no_digits, too_low, too_high, too_large}
 use native.Mathlib.Omega.{arith}
 use Rattle.command_line.proofs.decimal.Goals as goal
 

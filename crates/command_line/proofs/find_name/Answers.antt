@@ -1,8 +1,4 @@
-use Prim.Native.Nat.{◌+◌, ◌-◌, ◌*◌, ◌/◌, ◌≤◌, ◌<◌}
-use lib.ListN.{length}
-use mathlib.Core.Path.{◌≡◌, refl, sym, ◌∙◌}
-use Rattle.command_line.proofs.Laws.{Looking, looking_starts, looking_on, looking_ends, name_found, compared}
-use borrow.Author.Rules.{rules}
+use Rattle.command_line.proofs.Laws.{looking_starts, looking_on, looking_ends, name_found, compared}
 use native.Mathlib.Omega.{arith}
 use Rattle.command_line.proofs.find_name.Goals as goal
 

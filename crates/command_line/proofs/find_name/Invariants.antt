@@ -1,9 +1,6 @@
-use Prim.Native.Nat.{◌+◌, ◌-◌, ◌*◌, ◌/◌, ◌≤◌, ◌<◌}
+use Prim.Native.Nat.{◌-◌, ◌/◌}
 use lib.ListN.{length}
-use mathlib.Core.Path.{◌≡◌, refl, sym, ◌∙◌}
-use Rattle.command_line.proofs.Laws.{Looking, looking_starts, looking_on, looking_ends, name_found, compared}
-use borrow.Author.Rules.{rules}
-use native.Mathlib.Omega.{arith}
+use Rattle.command_line.proofs.Laws.{Looking}
 use Rattle.command_line.proofs.find_name.Given as goal
 
 abbrev pub invariant-loop-row : goal.invariant-loop-row

@@ -1,8 +1,5 @@
-use mathlib.Core.Path.{◌≡◌, refl, sym, ◌∙◌}
 use borrow.Author.Tests.{le-leb, lt-leb}
 use Rattle.command_line.specs.Words.{closed}
-use native.Mathlib.Omega.{arith}
-use borrow.Author.Rules.{rules}
 use Rattle.command_line.proofs.is_closed.Goals as goal
 
 pub returns-then-level-ge-DEEPEST : goal.returns-then-level-ge-DEEPEST

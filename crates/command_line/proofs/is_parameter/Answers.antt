@@ -1,7 +1,5 @@
-use mathlib.Core.Path.{◌≡◌, refl, sym, ◌∙◌}
+use mathlib.Core.Path.{◌∙◌}
 use Rattle.command_line.proofs.Laws.{parameter_short, parameter_other, parameter_starred, part_counts}
-use native.Mathlib.Omega.{arith}
-use borrow.Author.Rules.{rules}
 use Rattle.command_line.proofs.is_parameter.Goals as goal
 
 pub returns-then-s-n : goal.returns-then-s-n

@@ -1,7 +1,5 @@
-use mathlib.Core.Path.{◌≡◌, refl, sym, ◌∙◌}
+use mathlib.Core.Path.{◌∙◌}
 use Rattle.command_line.proofs.Laws.{cell_outside, cell_inside}
-use native.Mathlib.Omega.{arith}
-use borrow.Author.Rules.{rules}
 use Rattle.command_line.proofs.name_at.Goals as goal
 
 pub returns-then-names-row : goal.returns-then-names-row

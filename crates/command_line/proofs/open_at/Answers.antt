@@ -1,9 +1,5 @@
-use Prim.Native.Nat.{◌+◌, ◌-◌, ◌*◌, ◌≤◌, ◌<◌}
-use lib.ListN.{length}
-use mathlib.Core.Path.{◌≡◌, refl, sym, ◌∙◌}
-use Rattle.command_line.specs.Words.{open_at}
+use mathlib.Core.Path.{refl, sym, ◌∙◌}
 use Rattle.command_line.proofs.Laws.{open_less, open_here, open_none}
-use borrow.Author.Rules.{rules}
 use native.Mathlib.Omega.{arith}
 use Rattle.command_line.proofs.open_at.Goals as goal
 

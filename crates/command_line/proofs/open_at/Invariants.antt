@@ -1,11 +1,5 @@
-use Prim.Native.Nat.{◌+◌, ◌-◌, ◌*◌, ◌≤◌, ◌<◌}
-use lib.ListN.{length}
-use mathlib.Core.Path.{◌≡◌, refl, sym, ◌∙◌}
-use borrow.Author.Tests.{not-true, not-false}
+use mathlib.Core.Path.{◌≡◌}
 use Rattle.command_line.specs.Words.{open_at}
-use Rattle.command_line.proofs.Laws.{open_less, open_here, open_none}
-use borrow.Author.Rules.{rules}
-use native.Mathlib.Omega.{arith}
 use Rattle.command_line.proofs.open_at.Given as goal
 
 abbrev pub invariant-loop-d : goal.invariant-loop-d

@@ -1,6 +1,4 @@
 use Rattle.command_line.proofs.Laws.{opens_none, opens_one}
-use native.Mathlib.Omega.{arith}
-use borrow.Author.Rules.{rules}
 use Rattle.command_line.proofs.opened.Goals as goal
 
 pub returns-then-depth-ge-DEEPEST : goal.returns-then-depth-ge-DEEPEST

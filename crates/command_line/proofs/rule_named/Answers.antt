@@ -1,6 +1,5 @@
 use Rattle.command_line.proofs.Laws.{named_none, named_one, few_rules}
 use native.Mathlib.Omega.{arith}
-use borrow.Author.Rules.{rules}
 use Rattle.command_line.proofs.rule_named.Goals as goal
 
 pub returns-then-row-eq0 : goal.returns-then-row-eq0

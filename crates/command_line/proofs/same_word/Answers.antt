@@ -1,8 +1,5 @@
-use Prim.Native.Nat.{◌+◌, ◌-◌, ◌*◌, ◌≤◌, ◌<◌}
-use lib.ListN.{length}
-use mathlib.Core.Path.{◌≡◌, refl, sym, ◌∙◌}
-use Rattle.command_line.proofs.Laws.{Agree, agree_starts, agree_on, agree_halts, agree_ends, in_both, differ_long}
-use borrow.Author.Rules.{rules}
+use mathlib.Core.Path.{sym, ◌∙◌}
+use Rattle.command_line.proofs.Laws.{agree_starts, agree_on, agree_halts, agree_ends, in_both, differ_long}
 use native.Mathlib.Omega.{arith}
 use Rattle.command_line.proofs.same_word.Goals as goal
 
