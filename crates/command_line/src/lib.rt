@@ -266,25 +266,24 @@ fn number_of(e: io::Error) -> u8 {
     u8::try_from(code).unwrap_or(5)
 }
 
-// 0; or the error's number, where the write failed.
-fn send(rt: &HostRuntime, bytes: &[u8]) -> u8 {
+// 0; or the buffer's length, where the write failed, and the error's number.
+fn send(rt: &HostRuntime, bytes: &[u8], length: usize, error: &mut u8) -> usize
+    ensures { result ≤ length }
+{
     match rt.write_all(bytes) {
         Ok(()) => 0,
-        Err(e) => number_of(e),
+        Err(e) => {
+            *error = number_of(e);
+            length
+        }
     }
 }
 
-// 0 after a write; or the buffer's length, where the write failed.
-fn settled(out: &mut [u8], error: u8) -> usize
-    ensures { result ≤ length out.new }
-{
-    if error == 0 {
-        return 0;
-    }
-    if 0 < out.len() {
+// An error's number, where there is one, for `sent`.
+fn keep(out: &mut [u8], error: u8) {
+    if error != 0 && 0 < out.len() {
         out[0] = error;
     }
-    out.len()
 }
 
 // Writes what waits.
@@ -294,8 +293,11 @@ fn flush(rt: &HostRuntime, out: &mut [u8], n: usize) -> usize
     if out.len() <= n {
         return out.len();
     }
-    let error = send(rt, &out[..n]);
-    settled(out, error)
+    let length = out.len();
+    let mut error: u8 = 0;
+    let n = send(rt, &out[..n], length, &mut error);
+    keep(out, error);
+    n
 }
 
 // The same, where so many bytes more do not fit behind what waits.
@@ -327,8 +329,10 @@ fn add(rt: &HostRuntime, out: &mut [u8], n: usize, text: &[u8]) -> usize
         copy(out, n, text);
         return n + text.len();
     }
-    let error = send(rt, text);
-    settled(out, error)
+    let mut error: u8 = 0;
+    let n = send(rt, text, out.len(), &mut error);
+    keep(out, error);
+    n
 }
 
 pub fn say(rt: &HostRuntime, out: &mut [u8], n: usize, text: &[u8]) -> usize
@@ -340,8 +344,10 @@ pub fn say(rt: &HostRuntime, out: &mut [u8], n: usize, text: &[u8]) -> usize
 
 // 0 once what waits is written; or the number of the error of that write or of an earlier one.
 fn unsent(rt: &HostRuntime, out: &[u8], n: usize) -> u8 {
+    let mut error: u8 = 0;
     if n < out.len() {
-        return send(rt, &out[..n]);
+        send(rt, &out[..n], out.len(), &mut error);
+        return error;
     }
     if out.len() == 0 {
         return 0;
