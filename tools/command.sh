@@ -1,8 +1,9 @@
 # What ./read and ./attachments share: their options, the build at the first use, and the exit status. docs/COMMANDS.md has both.
-# The script that reads this has set `name`, `crate`, `root` and the function `usage`.
+# The script that reads this has set `name`, `crate`, `root`, `sample` (arguments in the crate's folder that are accepted) and the
+# function `usage`.
 set -u
 
-program=$root/target/bin/$crate
+program=$root/crates/$crate/out/$crate
 log=$root/target/$name.log
 
 complain() { printf '%s: %s\n' "$name" "$1" >&2; }
@@ -15,8 +16,8 @@ say_version() {
 # Built, and no source of a crate is newer.
 is_built() {
     [ -x "$program" ] || return 1
-    newer=$(find "$root/crates" "$root/crates.txt" -newer "$program" -type f \
-        \( -name '*.rt' -o -name '*.antt' -o -name crates.txt \) 2>/dev/null | head -n 1)
+    newer=$(find "$root/crates" "$root/crates.txt" -name out -prune -o -newer "$program" -type f \
+        \( -name '*.rt' -o -name '*.antt' -o -name crates.txt \) -print 2>/dev/null | head -n 1)
     [ -z "$newer" ]
 }
 
@@ -31,13 +32,16 @@ count_crates() {
 # Keeps the log, says which crate is proved, and ends with the status of rt, which is the last line.
 follow() {
     proved=0
+    crate_checked=$crate
     while IFS= read -r line; do
         case $line in
         'rt ended: '*) return "${line#rt ended: }" ;;
-        'rt: '*' proved ('*)
-            crate_proved=${line#rt: }
+        'crate '*': modules '*)
+            crate_checked=${line#crate }
+            ;;
+        'logic=proved '*)
             proved=$((proved + 1))
-            complain "proved ${crate_proved%% *} ($proved of $1)"
+            complain "proved ${crate_checked%%:*} ($proved of $1)"
             ;;
         esac
         printf '%s\n' "$line" >>"$log"
@@ -53,7 +57,7 @@ build() {
     mkdir -p "$root/target" && : >"$log" || return 1
     complain "proving and building the reader, which takes some minutes at the first use; the log is $log"
     {
-        (cd "$root" && rt check "$crate" 2>&1 </dev/null)
+        (cd "$root/crates/$crate" && rt run -- $sample 2>&1 </dev/null)
         echo "rt ended: $?"
     } | follow "$(count_crates)" || {
         tail -n 20 "$log" >&2
@@ -63,22 +67,12 @@ build() {
     touch "$program"
 }
 
-# The program, by the toolchain's emulator where the processor is not the one that programs are made for.
-start() {
-    if [ "$(uname -m)" = x86_64 ]; then
-        exec "$program" "$@"
-    fi
-    tools=$(dirname "$(dirname "$(rt doc)")")/on/$(uname -m)/toolchain
-    exec "$tools/bin/qemu-x86_64" "$tools/lib/ld-linux-x86-64.so.2" --library-path "$tools/lib" "$program" "$@"
-}
-
-# A program has no exit status of its own: it writes a digit to descriptor 3 when all else is done. No digit, no good end.
+# The program's status is ours where it is one of those that it returns.
 run() {
     ended=0
-    { status=$(start "$@" 3>&1 1>&4 4>&-) || ended=$?; } 4>&1
-    case $ended:$status in 0:[0-4]) return "$status" ;; esac
-    [ "$ended" -gt 5 ] || ended=5
-    [ "$ended" -eq 141 ] || complain "the program did not end well: status $ended"
+    (exec "$program" "$@") || ended=$?
+    case $ended in [0-4]) return "$ended" ;; esac
+    complain "the program did not end well: status $ended"
     return "$ended"
 }
 

@@ -12,8 +12,9 @@
 ghost use Rattle.std.specs.Prelude.{◌<◌, ◌≤◌, length};
 ghost use Rattle.command_line.specs.Words.{Loads};
 
-use command_line::{DEEPEST, Loaded, say, say_number};
+use command_line::{DEEPEST, Given, Loaded, say, say_number};
 use reader::Answer;
+use std::process::ExitCode;
 use walker::{Node, Place};
 
 // ----- fields of a node -----
@@ -55,23 +56,38 @@ fn disposition_field(kind: u32) -> usize {
 // ----- names -----
 
 // A parameter as the server sent it.
-fn say_parameter(out: &mut [u8], n: usize, s: &[u8], t: &[u32], pair: usize) -> usize
+fn say_parameter(
+    rt: &HostRuntime,
+    out: &mut [u8],
+    n: usize,
+    s: &[u8],
+    t: &[u32],
+    pair: usize,
+) -> usize
     ensures { result ≤ length out.new }
 {
-    let n = say(out, n, b", ");
-    let n = say_child(out, n, s, t, pair, 0);
-    let n = say(out, n, b" ");
-    command_line::say_quoted(out, n, views::view(s, t, child(t, pair, 1)))
+    let n = say(rt, out, n, b", ");
+    let n = say_child(rt, out, n, s, t, pair, 0);
+    let n = say(rt, out, n, b" ");
+    command_line::say_quoted(rt, out, n, views::view(s, t, child(t, pair, 1)))
 }
 
-fn say_if_named(out: &mut [u8], n: usize, s: &[u8], t: &[u32], pair: usize, word: &[u8]) -> usize
+fn say_if_named(
+    rt: &HostRuntime,
+    out: &mut [u8],
+    n: usize,
+    s: &[u8],
+    t: &[u32],
+    pair: usize,
+    word: &[u8],
+) -> usize
     ensures { result ≤ length out.new }
 {
     let name = child(t, pair, 0);
     if command_line::is_parameter(views::view(s, t, name), word) {
-        return say_parameter(out, n, s, t, pair);
+        return say_parameter(rt, out, n, s, t, pair);
     }
-    say(out, n, b"")
+    say(rt, out, n, b"")
 }
 
 // The sibling behind a node, or the limit.
@@ -87,6 +103,7 @@ fn next(t: &[u32], at: usize, limit: usize) -> usize
 
 // Those of the pairs from a place on that have this name, or one of RFC 2231's forms of it.
 fn say_named_pairs(
+    rt: &HostRuntime,
     out: &mut [u8],
     n: usize,
     s: &[u8],
@@ -97,75 +114,120 @@ fn say_named_pairs(
 ) -> usize
     ensures { result ≤ length out.new }
 {
-    let mut n = say(out, n, b"");
+    let mut n = say(rt, out, n, b"");
     let mut at = first;
     while at < limit {
-        n = say_if_named(out, n, s, t, at, word);
+        n = say_if_named(rt, out, n, s, t, at, word);
         at = next(t, at, limit);
     }
     n
 }
 
 // The same of a list, or of NIL, which has none.
-fn say_named(out: &mut [u8], n: usize, s: &[u8], t: &[u32], list: usize, word: &[u8]) -> usize
+fn say_named(
+    rt: &HostRuntime,
+    out: &mut [u8],
+    n: usize,
+    s: &[u8],
+    t: &[u32],
+    list: usize,
+    word: &[u8],
+) -> usize
     ensures { result ≤ length out.new }
 {
     let Place::At(limit) = walker::end_of(t, list) else {
-        return say(out, n, b"");
+        return say(rt, out, n, b"");
     };
     let Place::At(first) = walker::first_child(t, list) else {
-        return say(out, n, b"");
+        return say(rt, out, n, b"");
     };
-    say_named_pairs(out, n, s, t, first, limit, word)
+    say_named_pairs(rt, out, n, s, t, first, limit, word)
 }
 
 // The disposition's type and its file name, where there is one.
-fn say_disposition(out: &mut [u8], n: usize, s: &[u8], t: &[u32], at: usize) -> usize
+fn say_disposition(
+    rt: &HostRuntime,
+    out: &mut [u8],
+    n: usize,
+    s: &[u8],
+    t: &[u32],
+    at: usize,
+) -> usize
     ensures { result ≤ length out.new }
 {
     if walker::kind_at(t, at) != grammar::KIND_DISPOSITION {
-        return say(out, n, b"");
+        return say(rt, out, n, b"");
     }
-    let n = say(out, n, b", ");
-    let n = say_child(out, n, s, t, at, 0);
-    say_named(out, n, s, t, child(t, at, 1), b"FILENAME")
+    let n = say(rt, out, n, b", ");
+    let n = say_child(rt, out, n, s, t, at, 0);
+    say_named(rt, out, n, s, t, child(t, at, 1), b"FILENAME")
 }
 
 // ----- a part -----
 
-fn say_child(out: &mut [u8], n: usize, s: &[u8], t: &[u32], at: usize, which: usize) -> usize
+fn say_child(
+    rt: &HostRuntime,
+    out: &mut [u8],
+    n: usize,
+    s: &[u8],
+    t: &[u32],
+    at: usize,
+    which: usize,
+) -> usize
     ensures { result ≤ length out.new }
 {
-    command_line::say_bytes(out, n, views::view(s, t, child(t, at, which)))
+    command_line::say_bytes(rt, out, n, views::view(s, t, child(t, at, which)))
 }
 
-fn say_basic_type(out: &mut [u8], n: usize, s: &[u8], t: &[u32], at: usize) -> usize
+fn say_basic_type(
+    rt: &HostRuntime,
+    out: &mut [u8],
+    n: usize,
+    s: &[u8],
+    t: &[u32],
+    at: usize,
+) -> usize
     ensures { result ≤ length out.new }
 {
-    let n = say_child(out, n, s, t, at, 0);
-    let n = say(out, n, b"/");
-    say_child(out, n, s, t, at, 1)
+    let n = say_child(rt, out, n, s, t, at, 0);
+    let n = say(rt, out, n, b"/");
+    say_child(rt, out, n, s, t, at, 1)
 }
 
-fn say_text_type(out: &mut [u8], n: usize, s: &[u8], t: &[u32], at: usize) -> usize
+fn say_text_type(
+    rt: &HostRuntime,
+    out: &mut [u8],
+    n: usize,
+    s: &[u8],
+    t: &[u32],
+    at: usize,
+) -> usize
     ensures { result ≤ length out.new }
 {
-    let n = say(out, n, b"text/");
-    say_child(out, n, s, t, at, 0)
+    let n = say(rt, out, n, b"text/");
+    say_child(rt, out, n, s, t, at, 0)
 }
 
-fn say_type(out: &mut [u8], n: usize, s: &[u8], t: &[u32], at: usize, kind: u32) -> usize
+fn say_type(
+    rt: &HostRuntime,
+    out: &mut [u8],
+    n: usize,
+    s: &[u8],
+    t: &[u32],
+    at: usize,
+    kind: u32,
+) -> usize
     ensures { result ≤ length out.new }
 {
     match kind {
-        grammar::KIND_TEXT => say_text_type(out, n, s, t, at),
-        grammar::KIND_MESSAGE => say(out, n, b"message/rfc822"),
-        _ => say_basic_type(out, n, s, t, at),
+        grammar::KIND_TEXT => say_text_type(rt, out, n, s, t, at),
+        grammar::KIND_MESSAGE => say(rt, out, n, b"message/rfc822"),
+        _ => say_basic_type(rt, out, n, s, t, at),
     }
 }
 
 // The size, as the server counts it: of the encoded bytes.
-fn say_octets(out: &mut [u8], n: usize, t: &[u32], at: usize) -> usize
+fn say_octets(rt: &HostRuntime, out: &mut [u8], n: usize, t: &[u32], at: usize) -> usize
     ensures { result ≤ length out.new }
 {
     let Node::Words {
@@ -175,20 +237,36 @@ fn say_octets(out: &mut [u8], n: usize, t: &[u32], at: usize) -> usize
         nodes: _,
     } = walker::look(t, at)
     else {
-        return say(out, n, b"");
+        return say(rt, out, n, b"");
     };
-    let n = say(out, n, b", ");
-    command_line::say_count(out, n, a as u64, b" octet")
+    let n = say(rt, out, n, b", ");
+    command_line::say_count(rt, out, n, a as u64, b" octet")
 }
 
 // A part's line behind its number.
-fn say_part(out: &mut [u8], n: usize, s: &[u8], t: &[u32], at: usize, kind: u32) -> usize
+fn say_part(
+    rt: &HostRuntime,
+    out: &mut [u8],
+    n: usize,
+    s: &[u8],
+    t: &[u32],
+    at: usize,
+    kind: u32,
+) -> usize
     ensures { result ≤ length out.new }
 {
-    let n = say_type(out, n, s, t, at, kind);
-    let n = say_octets(out, n, t, child(t, at, octets_field(kind)));
-    let n = say_named(out, n, s, t, child(t, at, parameters_field(kind)), b"NAME");
-    say_disposition(out, n, s, t, child(t, at, disposition_field(kind)))
+    let n = say_type(rt, out, n, s, t, at, kind);
+    let n = say_octets(rt, out, n, t, child(t, at, octets_field(kind)));
+    let n = say_named(
+        rt,
+        out,
+        n,
+        s,
+        t,
+        child(t, at, parameters_field(kind)),
+        b"NAME",
+    );
+    say_disposition(rt, out, n, s, t, child(t, at, disposition_field(kind)))
 }
 
 // ----- part numbers -----
@@ -225,30 +303,48 @@ fn start_count(counts: &mut [u64; DEEPEST], level: usize) {
     }
 }
 
-fn say_count_at(out: &mut [u8], n: usize, counts: &[u64; DEEPEST], level: usize) -> usize
+fn say_count_at(
+    rt: &HostRuntime,
+    out: &mut [u8],
+    n: usize,
+    counts: &[u64; DEEPEST],
+    level: usize,
+) -> usize
     ensures { result ≤ length out.new }
 {
     if DEEPEST <= level {
-        return say(out, n, b"");
+        return say(rt, out, n, b"");
     }
-    say_number(out, n, counts[level])
+    say_number(rt, out, n, counts[level])
 }
 
-fn say_deeper_count(out: &mut [u8], n: usize, counts: &[u64; DEEPEST], level: usize) -> usize
+fn say_deeper_count(
+    rt: &HostRuntime,
+    out: &mut [u8],
+    n: usize,
+    counts: &[u64; DEEPEST],
+    level: usize,
+) -> usize
     ensures { result ≤ length out.new }
 {
-    let n = say(out, n, b".");
-    say_count_at(out, n, counts, level)
+    let n = say(rt, out, n, b".");
+    say_count_at(rt, out, n, counts, level)
 }
 
 // The counts of the levels below this depth, with dots between them.
-fn say_part_number(out: &mut [u8], n: usize, counts: &[u64; DEEPEST], depth: usize) -> usize
+fn say_part_number(
+    rt: &HostRuntime,
+    out: &mut [u8],
+    n: usize,
+    counts: &[u64; DEEPEST],
+    depth: usize,
+) -> usize
     ensures { result ≤ length out.new }
 {
-    let mut n = say_count_at(out, n, counts, 0);
+    let mut n = say_count_at(rt, out, n, counts, 0);
     let mut level: usize = 1;
     while level < depth {
-        n = say_deeper_count(out, n, counts, level);
+        n = say_deeper_count(rt, out, n, counts, level);
         level += 1;
     }
     n
@@ -327,6 +423,7 @@ fn node(
 }
 
 fn say_numbered(
+    rt: &HostRuntime,
     out: &mut [u8],
     n: usize,
     s: &[u8],
@@ -337,15 +434,16 @@ fn say_numbered(
 ) -> usize
     ensures { result ≤ length out.new }
 {
-    let n = say(out, n, b"  ");
-    let n = say_part_number(out, n, counts, depth);
-    let n = say(out, n, b" ");
-    let n = say_part(out, n, s, t, at, walker::kind_at(t, at));
-    say(out, n, b"\n")
+    let n = say(rt, out, n, b"  ");
+    let n = say_part_number(rt, out, n, counts, depth);
+    let n = say(rt, out, n, b" ");
+    let n = say_part(rt, out, n, s, t, at, walker::kind_at(t, at));
+    say(rt, out, n, b"\n")
 }
 
 // The line of a node that is a body and no multipart.
 fn say_line(
+    rt: &HostRuntime,
     out: &mut [u8],
     n: usize,
     s: &[u8],
@@ -358,24 +456,24 @@ fn say_line(
 {
     let kind = walker::kind_at(t, at);
     if kind < grammar::KIND_BASIC || grammar::KIND_MESSAGE < kind {
-        return say(out, n, b"");
+        return say(rt, out, n, b"");
     }
-    say_numbered(out, n, s, t, at, counts, depth)
+    say_numbered(rt, out, n, s, t, at, counts, depth)
 }
 
-fn say_parts(out: &mut [u8], n: usize, s: &[u8], t: &[u32], nodes: usize) -> usize
+fn say_parts(rt: &HostRuntime, out: &mut [u8], n: usize, s: &[u8], t: &[u32], nodes: usize) -> usize
     ensures { result ≤ length out.new }
 {
     let mut ends = [0usize; DEEPEST];
     let mut counts = [0u64; DEEPEST];
     let mut fresh = [true; DEEPEST];
     let mut depth = command_line::opened(&mut ends, 0, nodes);
-    let mut n = say(out, n, b"");
+    let mut n = say(rt, out, n, b"");
     let mut at: usize = 0;
     while at < nodes {
         let holder = command_line::open_at(&ends, depth, at);
         depth = node(t, at, holder, &mut ends, &mut counts, &mut fresh);
-        n = say_line(out, n, s, t, at, &counts, holder);
+        n = say_line(rt, out, n, s, t, at, &counts, holder);
         at += 1;
     }
     n
@@ -383,77 +481,80 @@ fn say_parts(out: &mut [u8], n: usize, s: &[u8], t: &[u32], nodes: usize) -> usi
 
 // ----- files -----
 
-fn say_accepted(out: &mut [u8], n: usize, r: Answer, s: &[u8], t: &[u32]) -> usize
+fn say_accepted(rt: &HostRuntime, out: &mut [u8], n: usize, r: Answer, s: &[u8], t: &[u32]) -> usize
     ensures { result ≤ length out.new }
 {
     let Answer::Accepted { taken: _, nodes } = r else {
-        return say(out, n, b"");
+        return say(rt, out, n, b"");
     };
-    say_parts(out, n, s, t, nodes)
+    say_parts(rt, out, n, s, t, nodes)
 }
 
 // The exit status is returned, here and below.
-fn list(path: &[u8], s: &[u8], t: &mut [u32]) -> u8 {
+fn list(rt: &HostRuntime, path: &[u8], s: &[u8], t: &mut [u32]) -> u8 {
     let r = reader::read(25, s, t);
-    let mut space = io::large_buffer();
+    let mut space = command_line::large_buffer();
     let out: &mut [u8] = &mut space;
-    let n = command_line::say_heading(out, 0, path);
-    let n = command_line::say_answer(out, n, r, t.len() / 4);
-    let n = say(out, n, b"\n");
-    let n = say_accepted(out, n, r, s, t);
-    command_line::sent(b"attachments", out, n, command_line::status_of(r))
+    let n = command_line::say_heading(rt, out, 0, path);
+    let n = command_line::say_answer(rt, out, n, r, t.len() / 4);
+    let n = say(rt, out, n, b"\n");
+    let n = say_accepted(rt, out, n, r, s, t);
+    command_line::sent(rt, b"attachments", out, n, command_line::status_of(r))
 }
 
-fn list_loaded(path: &[u8], loaded: Loaded, buf: &[u8], t: &mut [u32]) -> u8
+fn list_loaded(rt: &HostRuntime, path: &[u8], loaded: Loaded, buf: &[u8], t: &mut [u32]) -> u8
     requires { Loads loaded (length buf.now) }
 {
     if let Loaded::Bytes(n) = loaded {
-        return list(path, &buf[..n], t);
+        return list(rt, path, &buf[..n], t);
     }
     3
 }
 
-fn list_file(i: usize, buf: &mut [u8], t: &mut [u32]) -> u8 {
-    let mut path = io::buffer();
-    let n = os::arg(i, &mut path);
-    if os::errno() != 0 {
-        os::fail(b"attachments: cannot open FILE");
-        return 3;
+fn list_file(rt: &HostRuntime, i: usize, buf: &mut [u8], t: &mut [u32]) -> u8 {
+    let mut path = command_line::buffer();
+    match command_line::argument(rt, i, &mut path) {
+        Given::Filled(n) => {
+            let loaded = command_line::load_file(rt, b"attachments", &path[..n], buf);
+            list_loaded(rt, &path[..n], loaded, buf, t)
+        }
+        Given::Failed(error) => {
+            command_line::fail(rt, b"attachments: cannot open FILE", error);
+            3
+        }
     }
-    let loaded = command_line::load_file(b"attachments", &path[..n], buf);
-    list_loaded(&path[..n], loaded, buf, t)
 }
 
-fn list_files(buf: &mut [u8], t: &mut [u32]) -> u8 {
-    let files = os::arg_count();
+fn list_files(rt: &HostRuntime, buf: &mut [u8], t: &mut [u32]) -> u8 {
+    let files = command_line::argument_count(rt);
     let mut status: u8 = 0;
     let mut i: usize = 1;
     while i < files {
-        let more = list_file(i, buf, t);
+        let more = list_file(rt, i, buf, t);
         status = command_line::worse(status, more);
         i += 1;
     }
     status
 }
 
-fn answer(buf: &mut [u8], t: &mut [u32]) -> u8 {
-    if os::arg_count() < 2 {
-        io::write_all(
-            2,
+fn answer(rt: &HostRuntime, buf: &mut [u8], t: &mut [u32]) -> u8 {
+    if command_line::argument_count(rt) < 2 {
+        command_line::warn(
+            rt,
             b"attachments: wrong usage; attachments FILE ..; attachments --help says more\n",
         );
         return 3;
     }
-    list_files(buf, t)
+    list_files(rt, buf, t)
 }
 
 // Arrays, and not slices, so that nothing has to be computed of a million bytes.
-fn with_room(buf: &mut [u8; 1048577], t: &mut [u32; 786432]) {
-    command_line::leave(answer(buf, t));
+fn with_room(rt: &HostRuntime, buf: &mut [u8; 1048577], t: &mut [u32; 786432]) -> ExitCode {
+    command_line::leave(answer(rt, buf, t))
 }
 
-fn main() {
+fn main(rt: HostRuntime) -> ExitCode {
     let mut buf = [0u8; 1048577];
     let mut t = [0u32; 786432];
-    with_room(&mut buf, &mut t);
+    with_room(&rt, &mut buf, &mut t)
 }

@@ -6,6 +6,7 @@
 ghost use Rattle.std.specs.Prelude.{◌≤◌, length};
 
 use reader::Answer;
+use std::io::Read;
 
 // No number of 32 bits.
 const NONE: u64 = 4_294_967_296;
@@ -20,7 +21,7 @@ const ENDED: usize = 1_048_576;
 const MARK: u32 = 2_863_311_530;
 
 // What a line asks for; the bytes then stand at its beginning.
-#[derive(Drop)]
+#[derive(Clone, Copy)]
 enum Asked {
     Reading { rule: u32, words: usize, len: usize },
     Bad,
@@ -157,23 +158,28 @@ fn asked_of(line: &mut [u8]) -> Asked {
 
 // ----- output -----
 
-fn say(text: &[u8]) {
-    io::write_all(1, text);
+fn say(rt: &HostRuntime, text: &[u8]) {
+    let _ = rt.write_all(text);
 }
 
-fn say_word(word: u64) {
-    say(b" ");
-    io::print_decimal(1, word);
+// A number as it is.
+fn say_number(rt: &HostRuntime, value: u64) {
+    let _ = rt.print(value);
+}
+
+fn say_word(rt: &HostRuntime, word: u64) {
+    say(rt, b" ");
+    say_number(rt, word);
 }
 
 fn wide(word: u32) -> u64 {
     word as u64
 }
 
-fn say_words(t: &[u32]) {
+fn say_words(rt: &HostRuntime, t: &[u32]) {
     let mut i: usize = 0;
     while i < t.len() {
-        say_word(wide(t[i]));
+        say_word(rt, wide(t[i]));
         i += 1;
     }
 }
@@ -199,22 +205,22 @@ fn is_touched(t: &[u32]) -> bool {
     false
 }
 
-fn say_numbers(answer: u64, taken: usize, nodes: usize, wanted: usize) {
-    io::print_decimal(1, answer);
-    say_word(taken as u64);
-    say_word(nodes as u64);
-    say_word(wanted as u64);
+fn say_numbers(rt: &HostRuntime, answer: u64, taken: usize, nodes: usize, wanted: usize) {
+    say_number(rt, answer);
+    say_word(rt, taken as u64);
+    say_word(rt, nodes as u64);
+    say_word(rt, wanted as u64);
 }
 
-fn say_answer(answer: Answer) {
+fn say_answer(rt: &HostRuntime, answer: Answer) {
     match answer {
-        Answer::Accepted { taken, nodes } => say_numbers(0, taken, nodes, 0),
-        Answer::Unfinished { wanted } => say_numbers(1, 0, 0, wanted),
-        Answer::NotTheGrammar => say_numbers(2, 0, 0, 0),
-        Answer::TooDeep => say_numbers(3, 0, 0, 0),
-        Answer::NoRoom { nodes } => say_numbers(4, 0, nodes, 0),
-        Answer::UnknownRule => say_numbers(5, 0, 0, 0),
-        Answer::TooLong => say_numbers(6, 0, 0, 0),
+        Answer::Accepted { taken, nodes } => say_numbers(rt, 0, taken, nodes, 0),
+        Answer::Unfinished { wanted } => say_numbers(rt, 1, 0, 0, wanted),
+        Answer::NotTheGrammar => say_numbers(rt, 2, 0, 0, 0),
+        Answer::TooDeep => say_numbers(rt, 3, 0, 0, 0),
+        Answer::NoRoom { nodes } => say_numbers(rt, 4, 0, nodes, 0),
+        Answer::UnknownRule => say_numbers(rt, 5, 0, 0, 0),
+        Answer::TooLong => say_numbers(rt, 6, 0, 0, 0),
     }
 }
 
@@ -233,43 +239,43 @@ fn words_of(len: usize, nodes: usize) -> usize
 }
 
 // The nodes' words, whether another word changed, and the line's end.
-fn say_table(t: &[u32], nodes: usize) {
+fn say_table(rt: &HostRuntime, t: &[u32], nodes: usize) {
     let k = words_of(t.len(), nodes);
-    say_words(&t[0..k]);
+    say_words(rt, &t[0..k]);
     if is_touched(&t[k..]) {
-        say(b" touched");
+        say(rt, b" touched");
     }
-    say(b"\n");
+    say(rt, b"\n");
 }
 
-fn answer_reading(rule: u32, s: &[u8], t: &mut [u32]) {
+fn answer_reading(rt: &HostRuntime, rule: u32, s: &[u8], t: &mut [u32]) {
     fill(t);
     let answer = reader::read(rule, s, t);
-    say_answer(answer);
+    say_answer(rt, answer);
     let nodes = accepted_nodes(answer);
-    say_table(t, nodes);
+    say_table(rt, t, nodes);
 }
 
 // ----- lines -----
 
-fn answer_text(line: &mut [u8], t: &mut [u32]) {
+fn answer_text(rt: &HostRuntime, line: &mut [u8], t: &mut [u32]) {
     let asked = asked_of(line);
     if let Asked::Reading { rule, words, len } = asked {
         if len <= line.len() && len <= MOST && words <= t.len() {
-            answer_reading(rule, &line[0..len], &mut t[0..words]);
+            answer_reading(rt, rule, &line[0..len], &mut t[0..words]);
             return;
         }
     }
-    say(b"bad line\n");
+    say(rt, b"bad line\n");
 }
 
 // A line of n bytes; one that is longer than our buffer is bad.
-fn answer_line(line: &mut [u8], n: usize, t: &mut [u32]) {
+fn answer_line(rt: &HostRuntime, line: &mut [u8], n: usize, t: &mut [u32]) {
     if line.len() < n {
-        say(b"bad line\n");
+        say(rt, b"bad line\n");
         return;
     }
-    answer_text(&mut line[0..n], t);
+    answer_text(rt, &mut line[0..n], t);
 }
 
 // A byte behind the n of the line that are there, as far as there is room; how many there are then, one more at most than room.
@@ -281,56 +287,61 @@ fn add_byte(line: &mut [u8], n: usize, b: u8) -> usize {
     line.len() + 1
 }
 
-fn take_byte(b: u8, line: &mut [u8], n: usize, t: &mut [u32]) -> usize {
+fn take_byte(rt: &HostRuntime, b: u8, line: &mut [u8], n: usize, t: &mut [u32]) -> usize {
     if b == b'\n' {
-        answer_line(line, n, t);
+        answer_line(rt, line, n, t);
         return 0;
     }
     add_byte(line, n, b)
 }
 
-fn take_bytes(input: &[u8], line: &mut [u8], n: usize, t: &mut [u32]) -> usize {
+fn take_bytes(rt: &HostRuntime, input: &[u8], line: &mut [u8], n: usize, t: &mut [u32]) -> usize {
     let mut held = n;
     let mut i: usize = 0;
     while i < input.len() {
-        held = take_byte(input[i], line, held, t);
+        held = take_byte(rt, input[i], line, held, t);
         i += 1;
     }
     held
 }
 
 // What is there of standard input goes to the front of a buffer: how much that is.
-fn input_of(input: &mut [u8]) -> usize {
-    let got = libc::read(0, input);
-    io::count(got, input)
+fn input_of(rt: &HostRuntime, input: &mut [u8]) -> usize {
+    rt.stdin().read(input).unwrap_or(0)
 }
 
 // The line that no line end follows.
-fn answer_last(line: &mut [u8], held: usize, t: &mut [u32]) {
+fn answer_last(rt: &HostRuntime, line: &mut [u8], held: usize, t: &mut [u32]) {
     if 0 < held {
-        answer_line(line, held, t);
+        answer_line(rt, line, held, t);
     }
 }
 
 // What is there of standard input; at its end the last line, and ENDED.
-fn take_input(input: &mut [u8], line: &mut [u8], held: usize, t: &mut [u32]) -> usize {
-    let k = input_of(input);
+fn take_input(
+    rt: &HostRuntime,
+    input: &mut [u8],
+    line: &mut [u8],
+    held: usize,
+    t: &mut [u32],
+) -> usize {
+    let k = input_of(rt, input);
     if k == 0 {
-        answer_last(line, held, t);
+        answer_last(rt, line, held, t);
         return ENDED;
     }
     if input.len() < k {
         return ENDED;
     }
-    take_bytes(&input[0..k], line, held, t)
+    take_bytes(rt, &input[0..k], line, held, t)
 }
 
 // Nothing says that the input ends, and a loop has to: its turns are counted down from a number that no run uses up.
-fn answer_input(input: &mut [u8], line: &mut [u8], t: &mut [u32]) {
+fn answer_input(rt: &HostRuntime, input: &mut [u8], line: &mut [u8], t: &mut [u32]) {
     let mut held: usize = 0;
     let mut turns = u64::MAX;
     while 0 < turns {
-        held = take_input(input, line, held, t);
+        held = take_input(rt, input, line, held, t);
         if held == ENDED {
             return;
         }
@@ -339,9 +350,9 @@ fn answer_input(input: &mut [u8], line: &mut [u8], t: &mut [u32]) {
 }
 
 // Answers each line of standard input: a buffer of 65,536 bytes at most, a table of 262,144 words at most.
-fn main() {
+fn main(rt: HostRuntime) {
     let mut input = [0u8; 65536];
     let mut line = [0u8; 131104];
     let mut t = [0u32; 262144];
-    answer_input(&mut input, &mut line, &mut t);
+    answer_input(&rt, &mut input, &mut line, &mut t);
 }

@@ -11,6 +11,8 @@ use Rattle.reader.specs.declared.Answer.{Answer}
 use Rattle.reader.specs.declared.Answer.TheVariants.{Accepted, Unfinished, NotTheGrammar, TooDeep, NoRoom, UnknownRule, TooLong}
 use Rattle.command_line.specs.declared.Rule.{Rule}
 use Rattle.command_line.specs.declared.Rule.TheVariants.{Number, Unknown}
+use Rattle.command_line.specs.declared.Given.{Given}
+use Rattle.command_line.specs.declared.Given.TheVariants.{Filled, Failed}
 use Rattle.command_line.specs.declared.Loaded.{Loaded}
 use Rattle.command_line.specs.declared.Loaded.TheVariants.{Bytes, Nothing}
 
@@ -141,3 +143,8 @@ pub data Sent (status : ℕ) : ℕ → Type 0 where
 abbrev pub Loads : Loaded → ℕ → Type 0
 Loads (Bytes n) most = n ≤ most
 Loads Nothing most = Unit {0}
+
+-- the same of an argument
+abbrev pub Fits : Given → ℕ → Type 0
+Fits (Filled n) most = n ≤ most
+Fits (Failed error) most = Unit {0}

@@ -4,21 +4,28 @@
 
 #![tactic(auto)]
 
-ghost use Rattle.std.specs.Prelude.{◌≡◌, ℕ, ◌+◌, ◌≤◌, max, length};
-ghost use Rattle.command_line.specs.Words.{same_word, parameter, before_dot, cell, find_name, rule_names, decimal, numbered, rule_asked, closed, open_at, Opens, subtree_end, Loads, status_of, Sent};
+ghost use Rattle.std.specs.Prelude.{◌≡◌, ℕ, ◌+◌, ◌<◌, ◌≤◌, min, max, length};
+ghost use Rattle.command_line.specs.Words.{same_word, parameter, before_dot, cell, find_name, rule_names, decimal, numbered, rule_asked, closed, open_at, Opens, subtree_end, Loads, Fits, status_of, Sent};
+ghost use Rattle.std.specs.Process.{exit_status};
 
 use reader::Answer;
+use std::env::{Env, FillError};
+use std::fmt::Write;
+use std::fs::File;
+use std::io::Read;
+use std::process::ExitCode;
+use std::{fmt, io, str};
 use walker::Place;
 
 // A rule that was asked for by number or by name.
-#[derive(Drop)]
+#[derive(Clone, Copy)]
 pub enum Rule {
     Number(u32),
     Unknown,
 }
 
 // A file's bytes, from the buffer's beginning on; or a line on standard error has said why there are none.
-#[derive(Drop)]
+#[derive(Clone, Copy)]
 pub enum Loaded {
     Bytes(usize),
     Nothing,
@@ -162,7 +169,7 @@ fn decimal(s: &[u8]) -> Rule
 
 // The rule with this name.
 fn rule_named(s: &[u8]) -> Rule
-    ensures { result ≡ numbered (find-name rule-names s.now) }
+    ensures { result ≡ numbered (find_name rule_names s.now) }
 {
     let row = rule_name_row(s);
     if row == 0 {
@@ -173,7 +180,7 @@ fn rule_named(s: &[u8]) -> Rule
 
 // By a number, of a rule or not; or by a rule's name.
 pub fn rule_asked(s: &[u8]) -> Rule
-    ensures { result ≡ rule-asked s.now }
+    ensures { result ≡ rule_asked s.now }
 {
     match decimal(s) {
         Rule::Number(number) => Rule::Number(number),
@@ -223,7 +230,7 @@ pub fn opened(ends: &mut [usize; DEEPEST], depth: usize, end: usize) -> usize
 
 // Where a node's subtree ends; at the node itself, if the table does not say.
 pub fn subtree_end(t: &[u32], at: usize) -> usize
-    ensures { result ≡ subtree-end t.now at }
+    ensures { result ≡ subtree_end t.now at }
 {
     match walker::end_of(t, at) {
         Place::At(end) => end,
@@ -235,32 +242,68 @@ pub fn subtree_end(t: &[u32], at: usize) -> usize
 // ----- output -----
 
 // What is said is gathered in `out`, of which the first n bytes wait to be written; who says something returns the new n.
-// Where n is the buffer's length a write has failed, and nothing more is written.
+// Where n is the buffer's length a write has failed, and nothing more is written: the error's number is then the first byte.
 
-// 0; or the buffer's length, where the write failed.
-fn send(fd: i32, bytes: &[u8], length: usize) -> usize
+// 65,536 bytes for what is said.
+pub fn large_buffer() -> [u8; 65536]
+    ensures { 65536 ≡ length result }
+{
+    [0; 65536]
+}
+
+// 4,096 bytes for an argument.
+pub fn buffer() -> [u8; 4096]
+    ensures { 4096 ≡ length result }
+{
+    [0; 4096]
+}
+
+// The number of an error, as errno has it; EIO where the error is not the system's.
+fn number_of(e: io::Error) -> u8 {
+    let Some(code) = e.raw_os_error() else {
+        return 5;
+    };
+    u8::try_from(code).unwrap_or(5)
+}
+
+// 0; or the buffer's length, where the write failed, and the error's number.
+fn send(rt: &HostRuntime, bytes: &[u8], length: usize, error: &mut u8) -> usize
     ensures { result ≤ length }
 {
-    if io::write_all(fd, bytes) {
-        return 0;
+    match rt.write_all(bytes) {
+        Ok(()) => 0,
+        Err(e) => {
+            *error = number_of(e);
+            length
+        }
     }
-    length
+}
+
+// An error's number, where there is one, for `sent`.
+fn keep(out: &mut [u8], error: u8) {
+    if error != 0 && 0 < out.len() {
+        out[0] = error;
+    }
 }
 
 // Writes what waits.
-fn flush(fd: i32, out: &[u8], n: usize) -> usize
-    ensures { result ≤ length out.now }
+fn flush(rt: &HostRuntime, out: &mut [u8], n: usize) -> usize
+    ensures { result ≤ length out.new }
 {
     if out.len() <= n {
         return out.len();
     }
-    send(fd, &out[..n], out.len())
+    let length = out.len();
+    let mut error: u8 = 0;
+    let n = send(rt, &out[..n], length, &mut error);
+    keep(out, error);
+    n
 }
 
 // The same, where so many bytes more do not fit behind what waits.
-fn make_room(out: &[u8], n: usize, more: usize) -> usize {
+fn make_room(rt: &HostRuntime, out: &mut [u8], n: usize, more: usize) -> usize {
     if n < out.len() && out.len() - n <= more {
-        return flush(1, out, n);
+        return flush(rt, out, n);
     }
     n
 }
@@ -276,7 +319,7 @@ fn copy(out: &mut [u8], n: usize, text: &[u8])
 }
 
 // A text that fits no buffer is written at once.
-fn add(out: &mut [u8], n: usize, text: &[u8]) -> usize
+fn add(rt: &HostRuntime, out: &mut [u8], n: usize, text: &[u8]) -> usize
     ensures { result ≤ length out.new }
 {
     if out.len() <= n {
@@ -286,73 +329,108 @@ fn add(out: &mut [u8], n: usize, text: &[u8]) -> usize
         copy(out, n, text);
         return n + text.len();
     }
-    send(1, text, out.len())
+    let mut error: u8 = 0;
+    let n = send(rt, text, out.len(), &mut error);
+    keep(out, error);
+    n
 }
 
-pub fn say(out: &mut [u8], n: usize, text: &[u8]) -> usize
+pub fn say(rt: &HostRuntime, out: &mut [u8], n: usize, text: &[u8]) -> usize
     ensures { result ≤ length out.new }
 {
-    let n = make_room(out, n, text.len());
-    add(out, n, text)
+    let n = make_room(rt, out, n, text.len());
+    add(rt, out, n, text)
 }
 
-// A command's exit status once what waits is written: 4 where that or an earlier write failed, whose errno still stands.
-pub fn sent(command: &[u8], out: &[u8], n: usize, status: u8) -> u8
+// 0 once what waits is written; or the number of the error of that write or of an earlier one.
+fn unsent(rt: &HostRuntime, out: &[u8], n: usize) -> u8 {
+    let mut error: u8 = 0;
+    if n < out.len() {
+        send(rt, &out[..n], out.len(), &mut error);
+        return error;
+    }
+    if out.len() == 0 {
+        return 0;
+    }
+    out[0]
+}
+
+// A command's exit status once what waits is written: 4 where that or an earlier write failed.
+pub fn sent(rt: &HostRuntime, command: &[u8], out: &[u8], n: usize, status: u8) -> u8
     ensures { Sent status result }
 {
-    if flush(1, out, n) == 0 {
+    let error = unsent(rt, out, n);
+    if error == 0 {
         return status;
     }
-    io::write_all(2, command);
-    os::fail(b": cannot write");
+    warn(rt, command);
+    fail(rt, b": cannot write", error);
     4
 }
 
-pub fn say_number(out: &mut [u8], n: usize, value: u64) -> usize
+// The decimal digits of a number stand at the text's end: where they begin.
+fn digits(value: u64, text: &mut [u8; 20]) -> usize
+    ensures { result ≤ 20 }
+{
+    let mut at: usize = 20;
+    let mut rest = value;
+    while 0 < at {
+        at -= 1;
+        text[at] = b'0' + (rest % 10) as u8;
+        rest /= 10;
+        if rest == 0 {
+            return at;
+        }
+    }
+    at
+}
+
+pub fn say_number(rt: &HostRuntime, out: &mut [u8], n: usize, value: u64) -> usize
     ensures { result ≤ length out.new }
 {
     let mut text = [0u8; 20];
-    let k = io::decimal(value, &mut text);
-    say(out, n, &text[..k])
+    let at = digits(value, &mut text);
+    say(rt, out, n, &text[at..])
 }
 
 // A number and what is counted, after a space: `1 byte`, `2 bytes`.
-pub fn say_count(out: &mut [u8], n: usize, value: u64, what: &[u8]) -> usize
+pub fn say_count(rt: &HostRuntime, out: &mut [u8], n: usize, value: u64, what: &[u8]) -> usize
     ensures { result ≤ length out.new }
 {
-    let n = say_number(out, n, value);
-    let n = say(out, n, what);
+    let n = say_number(rt, out, n, value);
+    let n = say(rt, out, n, what);
     if value == 1 {
         return n;
     }
-    say(out, n, b"s")
+    say(rt, out, n, b"s")
 }
 
 // The two spaces of each level of a tree.
-pub fn say_indent(out: &mut [u8], n: usize, depth: usize) -> usize
+pub fn say_indent(rt: &HostRuntime, out: &mut [u8], n: usize, depth: usize) -> usize
     ensures { result ≤ length out.new }
 {
-    let mut n = say(out, n, b"");
+    let mut n = say(rt, out, n, b"");
     let mut i: usize = 0;
     while i < depth {
-        n = say(out, n, b"  ");
+        n = say(rt, out, n, b"  ");
         i += 1;
     }
     n
 }
 
 // A name of a table.
-pub fn say_name(out: &mut [u8], n: usize, names: &[u8], row: usize) -> usize
+pub fn say_name(rt: &HostRuntime, out: &mut [u8], n: usize, names: &[u8], row: usize) -> usize
     ensures { result ≤ length out.new }
 {
-    say(out, n, name_at(names, row))
+    say(rt, out, n, name_at(names, row))
 }
 
 // The kinds' names, by their numbers: those of docs/RULES.md.
-pub fn say_kind(out: &mut [u8], n: usize, kind: usize) -> usize
+pub fn say_kind(rt: &HostRuntime, out: &mut [u8], n: usize, kind: usize) -> usize
     ensures { result ≤ length out.new }
 {
     say_name(
+        rt,
         out,
         n,
         b"no such kind........\
@@ -386,10 +464,11 @@ pub fn say_kind(out: &mut [u8], n: usize, kind: usize) -> usize
 }
 
 // The known encodings, by word a of their nodes.
-pub fn say_encoding(out: &mut [u8], n: usize, which: usize) -> usize
+pub fn say_encoding(rt: &HostRuntime, out: &mut [u8], n: usize, which: usize) -> usize
     ensures { result ≤ length out.new }
 {
     say_name(
+        rt,
         out,
         n,
         b"unknown.............\
@@ -412,25 +491,31 @@ fn is_plain(b: u8) -> bool {
     b != b'"' && b != b'\\'
 }
 
-fn say_hex(out: &mut [u8], n: usize, b: u8) -> usize
+// A number below 16 as a digit.
+fn hex_digit(d: u8) -> u8
+    requires { d < 16 }
+{
+    if d < 10 { b'0' + d } else { b'a' - 10 + d }
+}
+
+fn say_hex(rt: &HostRuntime, out: &mut [u8], n: usize, b: u8) -> usize
     ensures { result ≤ length out.new }
 {
-    let n = say(out, n, b"\\x");
-    let mut text = [0u8; 16];
-    let k = io::hex(b as u64, 2, &mut text);
-    say(out, n, &text[..k])
+    let n = say(rt, out, n, b"\\x");
+    let text = [hex_digit(b / 16), hex_digit(b % 16)];
+    say(rt, out, n, &text)
 }
 
 // Any other byte.
-fn say_escape(out: &mut [u8], n: usize, b: u8) -> usize
+fn say_escape(rt: &HostRuntime, out: &mut [u8], n: usize, b: u8) -> usize
     ensures { result ≤ length out.new }
 {
     match b {
-        b'\r' => say(out, n, b"\\r"),
-        b'\n' => say(out, n, b"\\n"),
-        b'"' => say(out, n, b"\\\""),
-        b'\\' => say(out, n, b"\\\\"),
-        _ => say_hex(out, n, b),
+        b'\r' => say(rt, out, n, b"\\r"),
+        b'\n' => say(rt, out, n, b"\\n"),
+        b'"' => say(rt, out, n, b"\\\""),
+        b'\\' => say(rt, out, n, b"\\\\"),
+        _ => say_hex(rt, out, n, b),
     }
 }
 
@@ -450,17 +535,17 @@ fn plain_end(s: &[u8], at: usize) -> usize
 }
 
 // Plain bytes side by side are copied together.
-pub fn say_bytes(out: &mut [u8], n: usize, s: &[u8]) -> usize
+pub fn say_bytes(rt: &HostRuntime, out: &mut [u8], n: usize, s: &[u8]) -> usize
     ensures { result ≤ length out.new }
 {
-    let mut n = say(out, n, b"");
+    let mut n = say(rt, out, n, b"");
     let mut i: usize = 0;
     while i < s.len() {
         let end = plain_end(s, i);
-        n = say(out, n, &s[i..end]);
+        n = say(rt, out, n, &s[i..end]);
         i = end;
         if i < s.len() {
-            n = say_escape(out, n, s[i]);
+            n = say_escape(rt, out, n, s[i]);
             i += 1;
         }
     }
@@ -468,33 +553,33 @@ pub fn say_bytes(out: &mut [u8], n: usize, s: &[u8]) -> usize
 }
 
 // In quotes, all of them.
-pub fn say_quoted(out: &mut [u8], n: usize, s: &[u8]) -> usize
+pub fn say_quoted(rt: &HostRuntime, out: &mut [u8], n: usize, s: &[u8]) -> usize
     ensures { result ≤ length out.new }
 {
-    let n = say(out, n, b"\"");
-    let n = say_bytes(out, n, s);
-    say(out, n, b"\"")
+    let n = say(rt, out, n, b"\"");
+    let n = say_bytes(rt, out, n, s);
+    say(rt, out, n, b"\"")
 }
 
 // In quotes, the first 60 where there are more.
-pub fn say_cut(out: &mut [u8], n: usize, s: &[u8]) -> usize
+pub fn say_cut(rt: &HostRuntime, out: &mut [u8], n: usize, s: &[u8]) -> usize
     ensures { result ≤ length out.new }
 {
     if s.len() <= 60 {
-        return say_quoted(out, n, s);
+        return say_quoted(rt, out, n, s);
     }
-    let n = say_quoted(out, n, &s[..60]);
-    let n = say(out, n, b"... (");
-    let n = say_number(out, n, s.len() as u64);
-    say(out, n, b" bytes)")
+    let n = say_quoted(rt, out, n, &s[..60]);
+    let n = say(rt, out, n, b"... (");
+    let n = say_number(rt, out, n, s.len() as u64);
+    say(rt, out, n, b" bytes)")
 }
 
 // The file's name before its answer.
-pub fn say_heading(out: &mut [u8], n: usize, path: &[u8]) -> usize
+pub fn say_heading(rt: &HostRuntime, out: &mut [u8], n: usize, path: &[u8]) -> usize
     ensures { result ≤ length out.new }
 {
-    let n = say_bytes(out, n, path);
-    say(out, n, b": ")
+    let n = say_bytes(rt, out, n, path);
+    say(rt, out, n, b": ")
 }
 
 // ----- answers -----
@@ -521,127 +606,238 @@ pub fn worse(a: u8, b: u8) -> u8
     if a < b { b } else { a }
 }
 
-fn say_accepted(out: &mut [u8], n: usize, taken: usize, nodes: usize) -> usize
+fn say_accepted(rt: &HostRuntime, out: &mut [u8], n: usize, taken: usize, nodes: usize) -> usize
     ensures { result ≤ length out.new }
 {
-    let n = say(out, n, b"accepted: answer 0, ");
-    let n = say_count(out, n, taken as u64, b" byte");
-    let n = say(out, n, b" taken, ");
-    say_count(out, n, nodes as u64, b" node")
+    let n = say(rt, out, n, b"accepted: answer 0, ");
+    let n = say_count(rt, out, n, taken as u64, b" byte");
+    let n = say(rt, out, n, b" taken, ");
+    say_count(rt, out, n, nodes as u64, b" node")
 }
 
-fn say_unfinished(out: &mut [u8], n: usize, wanted: usize) -> usize
+fn say_unfinished(rt: &HostRuntime, out: &mut [u8], n: usize, wanted: usize) -> usize
     ensures { result ≤ length out.new }
 {
     if wanted == 0 {
-        return say(out, n, b"unfinished: answer 1, more bytes are needed");
+        return say(rt, out, n, b"unfinished: answer 1, more bytes are needed");
     }
-    let n = say(out, n, b"unfinished: answer 1, ");
-    let n = say_count(out, n, wanted as u64, b" more byte");
-    say(out, n, b" wanted")
+    let n = say(rt, out, n, b"unfinished: answer 1, ");
+    let n = say_count(rt, out, n, wanted as u64, b" more byte");
+    say(rt, out, n, b" wanted")
 }
 
-fn say_no_room(out: &mut [u8], n: usize, nodes: usize, room: usize) -> usize
+fn say_no_room(rt: &HostRuntime, out: &mut [u8], n: usize, nodes: usize, room: usize) -> usize
     ensures { result ≤ length out.new }
 {
-    let n = say(out, n, b"no room: answer 4, ");
-    let n = say_count(out, n, nodes as u64, b" node");
-    let n = say(out, n, b" needed, this command has room for ");
-    say_number(out, n, room as u64)
+    let n = say(rt, out, n, b"no room: answer 4, ");
+    let n = say_count(rt, out, n, nodes as u64, b" node");
+    let n = say(rt, out, n, b" needed, this command has room for ");
+    say_number(rt, out, n, room as u64)
 }
 
 // The answer of a reading into a table with room for so many nodes, in words and as docs/RULES.md numbers it.
-pub fn say_answer(out: &mut [u8], n: usize, r: Answer, room: usize) -> usize
+pub fn say_answer(rt: &HostRuntime, out: &mut [u8], n: usize, r: Answer, room: usize) -> usize
     ensures { result ≤ length out.new }
 {
     match r {
-        Answer::Accepted { taken, nodes } => say_accepted(out, n, taken, nodes),
-        Answer::Unfinished { wanted } => say_unfinished(out, n, wanted),
-        Answer::NotTheGrammar => say(out, n, b"not the grammar: answer 2"),
-        Answer::TooDeep => say(out, n, b"too deep: answer 3"),
-        Answer::NoRoom { nodes } => say_no_room(out, n, nodes, room),
-        Answer::UnknownRule => say(out, n, b"unknown rule: answer 5"),
-        Answer::TooLong => say(out, n, b"too long: answer 6"),
+        Answer::Accepted { taken, nodes } => say_accepted(rt, out, n, taken, nodes),
+        Answer::Unfinished { wanted } => say_unfinished(rt, out, n, wanted),
+        Answer::NotTheGrammar => say(rt, out, n, b"not the grammar: answer 2"),
+        Answer::TooDeep => say(rt, out, n, b"too deep: answer 3"),
+        Answer::NoRoom { nodes } => say_no_room(rt, out, n, nodes, room),
+        Answer::UnknownRule => say(rt, out, n, b"unknown rule: answer 5"),
+        Answer::TooLong => say(rt, out, n, b"too long: answer 6"),
     }
+}
+
+// ----- standard error -----
+
+// What of an error's text stands before its number, `No such file or directory (os error 2)`.
+#[derive(Drop)]
+struct Reason {
+    text: [u8; 128],
+    len: usize,
+    ended: bool,
+}
+
+impl Reason {
+    fn push(&mut self, b: u8) {
+        if b == b'(' {
+            self.ended = true;
+        }
+        if !self.ended && self.len < 128 {
+            self.text[self.len] = b;
+            self.len += 1;
+        }
+    }
+}
+
+impl fmt::Write for Reason {
+    fn write_str(&mut self, s: &str) -> fmt::Result {
+        for b in s.as_bytes() {
+            self.push(*b);
+        }
+        Ok(())
+    }
+}
+
+// How many of the bytes there are up to the last that is no space.
+fn trimmed(text: &[u8], len: usize) -> usize
+    ensures { result ≤ length text.now }
+{
+    if text.len() < len {
+        return text.len();
+    }
+    if 0 < len && text[len - 1] == b' ' {
+        return len - 1;
+    }
+    len
+}
+
+// Writes to standard error; nothing is to be done where that fails.
+pub fn warn(rt: &HostRuntime, line: &[u8]) {
+    let _ = rt.stderr().write_all(line);
+}
+
+// A line on standard error: what failed, a colon and the text of the error with this number.
+pub fn fail(rt: &HostRuntime, what: &[u8], error: u8) {
+    let mut reason = Reason {
+        text: [0u8; 128],
+        len: 0,
+        ended: false,
+    };
+    let e = io::Error::from_raw_os_error(error as i32);
+    let _ = write!(reason, "{e}");
+    warn(rt, what);
+    warn(rt, b": ");
+    let n = trimmed(&reason.text, reason.len);
+    warn(rt, &reason.text[..n]);
+    warn(rt, b"\n");
+}
+
+// A line on standard error, up to its reason. The buffer holds the longest name, 4,095 bytes, with each byte escaped.
+pub fn complain(rt: &HostRuntime, command: &[u8], what: &[u8], name: &[u8]) {
+    let mut space = large_buffer();
+    let out: &mut [u8] = &mut space;
+    let n = say(rt, out, 0, command);
+    let n = say(rt, out, n, what);
+    let n = say_quoted(rt, out, n, name);
+    if n < out.len() {
+        warn(rt, &out[..n]);
+    }
+}
+
+// The same line with the text of the error behind it.
+fn complain_why(rt: &HostRuntime, command: &[u8], what: &[u8], name: &[u8], error: u8) {
+    complain(rt, command, what, name);
+    fail(rt, b"", error);
+}
+
+// ----- arguments -----
+
+// An argument's bytes, from the buffer's beginning on; or the number of the error, where it is missing or does not fit.
+#[derive(Clone, Copy)]
+pub enum Given {
+    Filled(usize),
+    Failed(u8),
+}
+
+pub fn argument(rt: &HostRuntime, i: usize, buf: &mut [u8]) -> Given
+    ensures { Fits result (length buf.new) }
+{
+    match rt.arg(i, buf) {
+        Ok(n) => Given::Filled(n),
+        Err(FillError::TooLong) => Given::Failed(36),
+        Err(FillError::NotPresent) => Given::Failed(22),
+    }
+}
+
+// How many arguments the program was started with, its own name among them.
+pub fn argument_count(rt: &HostRuntime) -> usize {
+    let mut text = [0u8; 1];
+    for i in 0..usize::MAX {
+        if let Err(FillError::NotPresent) = rt.arg(i, &mut text) {
+            return i;
+        }
+    }
+    usize::MAX
 }
 
 // ----- files -----
 
-// A line on standard error, up to its reason. The buffer holds the longest name, 4,095 bytes, with each byte escaped.
-pub fn complain(command: &[u8], what: &[u8], name: &[u8]) {
-    let mut space = io::large_buffer();
-    let out: &mut [u8] = &mut space;
-    let n = say(out, 0, command);
-    let n = say(out, n, what);
-    let n = say_quoted(out, n, name);
-    flush(2, out, n);
+fn cannot_read(rt: &HostRuntime, command: &[u8], path: &[u8], error: u8) {
+    complain_why(rt, command, b": cannot read ", path, error);
 }
 
-// The same line with errno's text behind it.
-fn complain_why(command: &[u8], what: &[u8], name: &[u8]) {
-    complain(command, what, name);
-    os::fail(b"");
-}
-
-fn cannot_read(command: &[u8], path: &[u8]) {
-    complain_why(command, b": cannot read ", path);
-}
-
-fn too_long(command: &[u8], path: &[u8]) {
-    complain(command, b": too long: ", path);
-    io::write_all(
-        2,
+fn too_long(rt: &HostRuntime, command: &[u8], path: &[u8]) {
+    complain(rt, command, b": too long: ", path);
+    warn(
+        rt,
         b" has more than 1048576 bytes, which is this command's limit\n",
     );
 }
 
 // Reads to the end. A buffer that is full has one byte more than is allowed.
-fn load(command: &[u8], path: &[u8], fd: i32, buf: &mut [u8]) -> Loaded
+fn load<R: Read>(
+    rt: &HostRuntime,
+    command: &[u8],
+    path: &[u8],
+    file: &mut R,
+    buf: &mut [u8],
+) -> Loaded
     ensures { Loads result (length buf.new) }
 {
     let mut done: usize = 0;
     while done < buf.len() {
-        let got = libc::read(fd, &mut buf[done..]);
-        if got < 0 {
-            cannot_read(command, path);
-            return Loaded::Nothing;
+        match file.read(&mut buf[done..]) {
+            Ok(n) => {
+                if n == 0 {
+                    return Loaded::Bytes(done);
+                }
+                done += n;
+            }
+            Err(e) => {
+                cannot_read(rt, command, path, number_of(e));
+                return Loaded::Nothing;
+            }
         }
-        let n = io::count(got, &buf[done..]);
-        if n == 0 {
-            return Loaded::Bytes(done);
-        }
-        done += n;
     }
-    too_long(command, path);
+    too_long(rt, command, path);
     Loaded::Nothing
 }
 
+// Names of files are text to the library: EILSEQ where this one is not.
+fn open(rt: &HostRuntime, path: &[u8]) -> io::Result<File> {
+    let Ok(name) = str::from_utf8(path) else {
+        return Err(io::Error::from_raw_os_error(84));
+    };
+    File::open(rt, name)
+}
+
 // A file by its name, or standard input as `-`.
-pub fn load_file(command: &[u8], path: &[u8], buf: &mut [u8]) -> Loaded
+pub fn load_file(rt: &HostRuntime, command: &[u8], path: &[u8], buf: &mut [u8]) -> Loaded
     ensures { Loads result (length buf.new) }
 {
     if same_word(path, b"-") {
-        return load(command, path, 0, buf);
+        return load(rt, command, path, &mut rt.stdin(), buf);
     }
-    let fd = os::open_read(path);
-    if fd < 0 {
-        complain_why(command, b": cannot open ", path);
-        return Loaded::Nothing;
+    match open(rt, path) {
+        Ok(mut file) => load(rt, command, path, &mut file, buf),
+        Err(e) => {
+            complain_why(rt, command, b": cannot open ", path, number_of(e));
+            Loaded::Nothing
+        }
     }
-    let loaded = load(command, path, fd, buf);
-    libc::close(fd);
-    loaded
 }
 
 // ----- the exit status -----
 
-// A program has none of its own, so its last act is to write the digit to descriptor 3, where tools/command.sh waits for it.
-pub fn leave(status: u8) {
-    match status {
-        0 => io::write_all(3, b"0"),
-        1 => io::write_all(3, b"1"),
-        2 => io::write_all(3, b"2"),
-        3 => io::write_all(3, b"3"),
-        _ => io::write_all(3, b"4"),
-    };
+// What a program's `main` returns: 4 for any status above.
+pub fn leave(status: u8) -> ExitCode
+    ensures { exit_status result ≡ min status 4 }
+{
+    if status < 4 {
+        return ExitCode::from(status);
+    }
+    ExitCode::from(4)
 }

@@ -6,8 +6,9 @@
 ghost use Rattle.std.specs.Prelude.{◌≤◌, length};
 ghost use Rattle.command_line.specs.Words.{Loads};
 
-use command_line::{DEEPEST, Loaded, Rule, say, say_count, say_number};
+use command_line::{DEEPEST, Given, Loaded, Rule, say, say_count, say_number};
 use reader::Answer;
+use std::process::ExitCode;
 use walker::Node;
 
 // ----- the fields of a structure -----
@@ -45,10 +46,11 @@ fn later_first_field(kind: usize) -> usize
 }
 
 // RFC 3501's names for the fields of each kind in turn, and for RFC 4315's, 7162's and 5464's data.
-fn say_field(out: &mut [u8], n: usize, row: usize) -> usize
+fn say_field(rt: &HostRuntime, out: &mut [u8], n: usize, row: usize) -> usize
     ensures { result ≤ length out.new }
 {
     command_line::say_name(
+        rt,
         out,
         n,
         b"....................\
@@ -79,107 +81,107 @@ fn say_field(out: &mut [u8], n: usize, row: usize) -> usize
 }
 
 // The field that is so many places behind the first of its parent's kind.
-fn say_field_of(out: &mut [u8], n: usize, kind: usize, place: usize) -> usize
+fn say_field_of(rt: &HostRuntime, out: &mut [u8], n: usize, kind: usize, place: usize) -> usize
     ensures { result ≤ length out.new }
 {
     let first = first_field(kind);
     if first == 0 {
-        return say(out, n, b"");
+        return say(rt, out, n, b"");
     }
     if 12 < place {
-        return say(out, n, b"");
+        return say(rt, out, n, b"");
     }
-    let n = say_field(out, n, first + place);
-    say(out, n, b": ")
+    let n = say_field(rt, out, n, first + place);
+    say(rt, out, n, b": ")
 }
 
 // ----- a node -----
 
-fn say_two(out: &mut [u8], n: usize, a: u32, b: u32) -> usize
+fn say_two(rt: &HostRuntime, out: &mut [u8], n: usize, a: u32, b: u32) -> usize
     ensures { result ≤ length out.new }
 {
-    let n = say_number(out, n, a as u64);
-    let n = say(out, n, b"..");
-    say_number(out, n, b as u64)
+    let n = say_number(rt, out, n, a as u64);
+    let n = say(rt, out, n, b"..");
+    say_number(rt, out, n, b as u64)
 }
 
 // [start..end)
-fn say_places(out: &mut [u8], n: usize, a: u32, b: u32) -> usize
+fn say_places(rt: &HostRuntime, out: &mut [u8], n: usize, a: u32, b: u32) -> usize
     ensures { result ≤ length out.new }
 {
-    let n = say(out, n, b" [");
-    let n = say_two(out, n, a, b);
-    say(out, n, b")")
+    let n = say(rt, out, n, b" [");
+    let n = say_two(rt, out, n, a, b);
+    say(rt, out, n, b")")
 }
 
 // The number of a low and a high word.
-fn say_value(out: &mut [u8], n: usize, low: u32, high: u32) -> usize
+fn say_value(rt: &HostRuntime, out: &mut [u8], n: usize, low: u32, high: u32) -> usize
     ensures { result ≤ length out.new }
 {
-    let n = say(out, n, b" ");
-    say_number(out, n, high as u64 * 4294967296 + low as u64)
+    let n = say(rt, out, n, b" ");
+    say_number(rt, out, n, high as u64 * 4294967296 + low as u64)
 }
 
-fn say_range(out: &mut [u8], n: usize, a: u32, b: u32) -> usize
+fn say_range(rt: &HostRuntime, out: &mut [u8], n: usize, a: u32, b: u32) -> usize
     ensures { result ≤ length out.new }
 {
-    let n = say(out, n, b" ");
-    say_two(out, n, a, b)
+    let n = say(rt, out, n, b" ");
+    say_two(rt, out, n, a, b)
 }
 
-fn say_section_text(out: &mut [u8], n: usize, which: u32) -> usize
+fn say_section_text(rt: &HostRuntime, out: &mut [u8], n: usize, which: u32) -> usize
     ensures { result ≤ length out.new }
 {
     match which {
-        1 => say(out, n, b" HEADER"),
-        2 => say(out, n, b" MIME"),
-        3 => say(out, n, b" TEXT"),
-        _ => say(out, n, b" unknown"),
+        1 => say(rt, out, n, b" HEADER"),
+        2 => say(rt, out, n, b" MIME"),
+        3 => say(rt, out, n, b" TEXT"),
+        _ => say(rt, out, n, b" unknown"),
     }
 }
 
-fn say_which_encoding(out: &mut [u8], n: usize, which: u32) -> usize
+fn say_which_encoding(rt: &HostRuntime, out: &mut [u8], n: usize, which: u32) -> usize
     ensures { result ≤ length out.new }
 {
-    let n = say(out, n, b" ");
-    command_line::say_encoding(out, n, which as usize)
+    let n = say(rt, out, n, b" ");
+    command_line::say_encoding(rt, out, n, which as usize)
 }
 
-fn say_children(out: &mut [u8], n: usize, count: u32) -> usize
+fn say_children(rt: &HostRuntime, out: &mut [u8], n: usize, count: u32) -> usize
     ensures { result ≤ length out.new }
 {
-    let n = say(out, n, b" of ");
-    say_number(out, n, count as u64)
+    let n = say(rt, out, n, b" of ");
+    say_number(rt, out, n, count as u64)
 }
 
 // What words a and b mean for a kind.
-fn say_words(out: &mut [u8], n: usize, kind: u32, a: u32, b: u32) -> usize
+fn say_words(rt: &HostRuntime, out: &mut [u8], n: usize, kind: u32, a: u32, b: u32) -> usize
     ensures { result ≤ length out.new }
 {
     match kind {
-        1 => say_value(out, n, a, b),
-        2 => say_range(out, n, a, b),
-        3 => say_value(out, n, a, 0),
-        6 => say(out, n, b""),
-        7 => say_children(out, n, a),
-        8 => say_section_text(out, n, a),
-        9 => say_which_encoding(out, n, a),
-        _ => say_places(out, n, a, b),
+        1 => say_value(rt, out, n, a, b),
+        2 => say_range(rt, out, n, a, b),
+        3 => say_value(rt, out, n, a, 0),
+        6 => say(rt, out, n, b""),
+        7 => say_children(rt, out, n, a),
+        8 => say_section_text(rt, out, n, a),
+        9 => say_which_encoding(rt, out, n, a),
+        _ => say_places(rt, out, n, a, b),
     }
 }
 
 // The bytes that a node names, where it names any.
-fn say_bytes_of(out: &mut [u8], n: usize, s: &[u8], t: &[u32], at: usize) -> usize
+fn say_bytes_of(rt: &HostRuntime, out: &mut [u8], n: usize, s: &[u8], t: &[u32], at: usize) -> usize
     ensures { result ≤ length out.new }
 {
     if views::view_answer(s, t, at) != 0 {
-        return say(out, n, b"");
+        return say(rt, out, n, b"");
     }
-    let n = say(out, n, b" ");
-    command_line::say_cut(out, n, views::view(s, t, at))
+    let n = say(rt, out, n, b" ");
+    command_line::say_cut(rt, out, n, views::view(s, t, at))
 }
 
-fn say_node(out: &mut [u8], n: usize, s: &[u8], t: &[u32], at: usize) -> usize
+fn say_node(rt: &HostRuntime, out: &mut [u8], n: usize, s: &[u8], t: &[u32], at: usize) -> usize
     ensures { result ≤ length out.new }
 {
     let Node::Words {
@@ -189,12 +191,12 @@ fn say_node(out: &mut [u8], n: usize, s: &[u8], t: &[u32], at: usize) -> usize
         nodes: _,
     } = walker::look(t, at)
     else {
-        return say(out, n, b"");
+        return say(rt, out, n, b"");
     };
-    let n = command_line::say_kind(out, n, kind as usize);
-    let n = say_words(out, n, kind, a, b);
-    let n = say_bytes_of(out, n, s, t, at);
-    say(out, n, b"\n")
+    let n = command_line::say_kind(rt, out, n, kind as usize);
+    let n = say_words(rt, out, n, kind, a, b);
+    let n = say_bytes_of(rt, out, n, s, t, at);
+    say(rt, out, n, b"\n")
 }
 
 // ----- the tree -----
@@ -237,6 +239,7 @@ fn parent_kind(kinds: &[usize; DEEPEST], depth: usize) -> usize {
 
 // A node's line: the field that it is of its parent, and the node.
 fn say_line(
+    rt: &HostRuntime,
     out: &mut [u8],
     n: usize,
     depth: usize,
@@ -248,9 +251,9 @@ fn say_line(
 ) -> usize
     ensures { result ≤ length out.new }
 {
-    let n = command_line::say_indent(out, n, depth);
-    let n = say_field_of(out, n, kind, place);
-    say_node(out, n, s, t, at)
+    let n = command_line::say_indent(rt, out, n, depth);
+    let n = say_field_of(rt, out, n, kind, place);
+    say_node(rt, out, n, s, t, at)
 }
 
 // The depth of the next node, if this one has children.
@@ -266,20 +269,20 @@ fn enter(
     command_line::opened(ends, depth, command_line::subtree_end(t, at))
 }
 
-fn say_tree(out: &mut [u8], n: usize, s: &[u8], t: &[u32], nodes: usize) -> usize
+fn say_tree(rt: &HostRuntime, out: &mut [u8], n: usize, s: &[u8], t: &[u32], nodes: usize) -> usize
     ensures { result ≤ length out.new }
 {
     let mut ends = [0usize; DEEPEST];
     let mut kinds = [0usize; DEEPEST];
     let mut seen = [0usize; DEEPEST];
     let mut depth: usize = 0;
-    let mut n = say(out, n, b"");
+    let mut n = say(rt, out, n, b"");
     let mut at: usize = 0;
     while at < nodes {
         depth = command_line::open_at(&ends, depth, at);
         let kind = parent_kind(&kinds, depth);
         let place = child_seen(&mut seen, depth);
-        n = say_line(out, n, depth, kind, place, s, t, at);
+        n = say_line(rt, out, n, depth, kind, place, s, t, at);
         depth = enter(t, at, depth, &mut ends, &mut kinds, &mut seen);
         at += 1;
     }
@@ -288,49 +291,50 @@ fn say_tree(out: &mut [u8], n: usize, s: &[u8], t: &[u32], nodes: usize) -> usiz
 
 // ----- a reading -----
 
-fn say_rest(out: &mut [u8], n: usize, s: &[u8], taken: usize) -> usize
+fn say_rest(rt: &HostRuntime, out: &mut [u8], n: usize, s: &[u8], taken: usize) -> usize
     ensures { result ≤ length out.new }
 {
     if s.len() <= taken {
-        return say(out, n, b"");
+        return say(rt, out, n, b"");
     }
-    let n = say_count(out, n, (s.len() - taken) as u64, b" byte");
-    say(out, n, b" after that\n")
+    let n = say_count(rt, out, n, (s.len() - taken) as u64, b" byte");
+    say(rt, out, n, b" after that\n")
 }
 
-fn say_nodes(out: &mut [u8], n: usize, r: Answer, s: &[u8], t: &[u32]) -> usize
+fn say_nodes(rt: &HostRuntime, out: &mut [u8], n: usize, r: Answer, s: &[u8], t: &[u32]) -> usize
     ensures { result ≤ length out.new }
 {
     let Answer::Accepted { taken, nodes } = r else {
-        return say(out, n, b"");
+        return say(rt, out, n, b"");
     };
-    let n = say_rest(out, n, s, taken);
-    say_tree(out, n, s, t, nodes)
+    let n = say_rest(rt, out, n, s, taken);
+    say_tree(rt, out, n, s, t, nodes)
 }
 
 // The file's name before the answer, where several are read.
-fn say_heading(out: &mut [u8], n: usize, several: bool, path: &[u8]) -> usize
+fn say_heading(rt: &HostRuntime, out: &mut [u8], n: usize, several: bool, path: &[u8]) -> usize
     ensures { result ≤ length out.new }
 {
     if !several {
-        return say(out, n, b"");
+        return say(rt, out, n, b"");
     }
-    command_line::say_heading(out, n, path)
+    command_line::say_heading(rt, out, n, path)
 }
 
 // The exit status is returned, here and below.
-fn show(number: u32, several: bool, path: &[u8], s: &[u8], t: &mut [u32]) -> u8 {
+fn show(rt: &HostRuntime, number: u32, several: bool, path: &[u8], s: &[u8], t: &mut [u32]) -> u8 {
     let r = reader::read(number, s, t);
-    let mut space = io::large_buffer();
+    let mut space = command_line::large_buffer();
     let out: &mut [u8] = &mut space;
-    let n = say_heading(out, 0, several, path);
-    let n = command_line::say_answer(out, n, r, t.len() / 4);
-    let n = say(out, n, b"\n");
-    let n = say_nodes(out, n, r, s, t);
-    command_line::sent(b"read", out, n, command_line::status_of(r))
+    let n = say_heading(rt, out, 0, several, path);
+    let n = command_line::say_answer(rt, out, n, r, t.len() / 4);
+    let n = say(rt, out, n, b"\n");
+    let n = say_nodes(rt, out, n, r, s, t);
+    command_line::sent(rt, b"read", out, n, command_line::status_of(r))
 }
 
 fn show_loaded(
+    rt: &HostRuntime,
     number: u32,
     several: bool,
     path: &[u8],
@@ -341,14 +345,21 @@ fn show_loaded(
     requires { Loads loaded (length buf.now) }
 {
     if let Loaded::Bytes(n) = loaded {
-        return show(number, several, path, &buf[..n], t);
+        return show(rt, number, several, path, &buf[..n], t);
     }
     3
 }
 
-fn read_file(number: u32, several: bool, path: &[u8], buf: &mut [u8], t: &mut [u32]) -> u8 {
-    let loaded = command_line::load_file(b"read", path, buf);
-    show_loaded(number, several, path, loaded, buf, t)
+fn read_file(
+    rt: &HostRuntime,
+    number: u32,
+    several: bool,
+    path: &[u8],
+    buf: &mut [u8],
+    t: &mut [u32],
+) -> u8 {
+    let loaded = command_line::load_file(rt, b"read", path, buf);
+    show_loaded(rt, number, several, path, loaded, buf, t)
 }
 
 // ----- what is asked -----
@@ -364,86 +375,97 @@ fn known(rule: Rule) -> u32 {
     number
 }
 
-fn unknown(word: &[u8]) {
-    command_line::complain(b"read", b": unknown rule ", word);
-    io::write_all(2, b"; read --help lists the rules\n");
+fn unknown(rt: &HostRuntime, word: &[u8]) {
+    command_line::complain(rt, b"read", b": unknown rule ", word);
+    command_line::warn(rt, b"; read --help lists the rules\n");
 }
 
 // The rule that an argument asks for; where there is none a line on standard error says so.
-fn rule_at(i: usize) -> u32 {
-    let mut word = io::buffer();
-    let n = os::arg(i, &mut word);
+fn rule_at(rt: &HostRuntime, i: usize) -> u32 {
+    let mut word = command_line::buffer();
+    let Given::Filled(n) = command_line::argument(rt, i, &mut word) else {
+        unknown(rt, b"");
+        return 0;
+    };
     let number = known(command_line::rule_asked(&word[..n]));
     if number == 0 {
-        unknown(&word[..n]);
+        unknown(rt, &word[..n]);
     }
     number
 }
 
 // RULE alone.
-fn read_input(buf: &mut [u8], t: &mut [u32]) -> u8 {
-    let number = rule_at(1);
+fn read_input(rt: &HostRuntime, buf: &mut [u8], t: &mut [u32]) -> u8 {
+    let number = rule_at(rt, 1);
     if number == 0 {
         return 3;
     }
-    read_file(number, false, b"-", buf, t)
+    read_file(rt, number, false, b"-", buf, t)
 }
 
 // RULE FILE, by the numbers of these arguments.
-fn read_pair(rule: usize, file: usize, several: bool, buf: &mut [u8], t: &mut [u32]) -> u8 {
-    let number = rule_at(rule);
+fn read_pair(
+    rt: &HostRuntime,
+    rule: usize,
+    file: usize,
+    several: bool,
+    buf: &mut [u8],
+    t: &mut [u32],
+) -> u8 {
+    let number = rule_at(rt, rule);
     if number == 0 {
         return 3;
     }
-    let mut path = io::buffer();
-    let n = os::arg(file, &mut path);
-    if os::errno() != 0 {
-        os::fail(b"read: cannot open FILE");
-        return 3;
+    let mut path = command_line::buffer();
+    match command_line::argument(rt, file, &mut path) {
+        Given::Filled(n) => read_file(rt, number, several, &path[..n], buf, t),
+        Given::Failed(error) => {
+            command_line::fail(rt, b"read: cannot open FILE", error);
+            3
+        }
     }
-    read_file(number, several, &path[..n], buf, t)
 }
 
-fn read_pairs(pairs: usize, buf: &mut [u8], t: &mut [u32]) -> u8
+fn read_pairs(rt: &HostRuntime, pairs: usize, buf: &mut [u8], t: &mut [u32]) -> u8
     requires { pairs ≤ 9223372036854775807 }
 {
     let several = 1 < pairs;
     let mut status: u8 = 0;
     let mut k: usize = 0;
     while k < pairs {
-        let more = read_pair(2 * k + 1, 2 * k + 2, several, buf, t);
+        let more = read_pair(rt, 2 * k + 1, 2 * k + 2, several, buf, t);
         status = command_line::worse(status, more);
         k += 1;
     }
     status
 }
 
-fn misused() -> u8 {
-    io::write_all(
-        2,
+fn misused(rt: &HostRuntime) -> u8 {
+    command_line::warn(
+        rt,
         b"read: wrong usage; read RULE [FILE], or RULE FILE RULE FILE ..; read --help says more\n",
     );
     3
 }
 
-fn answer(buf: &mut [u8], t: &mut [u32]) -> u8 {
-    let count = os::arg_count();
+fn answer(rt: &HostRuntime, buf: &mut [u8], t: &mut [u32]) -> u8 {
+    let count = command_line::argument_count(rt);
     if count == 2 {
-        return read_input(buf, t);
+        return read_input(rt, buf, t);
     }
     if count < 2 || count % 2 == 0 {
-        return misused();
+        return misused(rt);
     }
-    read_pairs(count / 2, buf, t)
+    read_pairs(rt, count / 2, buf, t)
 }
 
 // Arrays, and not slices, so that nothing has to be computed of a million bytes.
-fn with_room(buf: &mut [u8; 1048577], t: &mut [u32; 786432]) {
-    command_line::leave(answer(buf, t));
+fn with_room(rt: &HostRuntime, buf: &mut [u8; 1048577], t: &mut [u32; 786432]) -> ExitCode {
+    command_line::leave(answer(rt, buf, t))
 }
 
-fn main() {
+fn main(rt: HostRuntime) -> ExitCode {
     let mut buf = [0u8; 1048577];
     let mut t = [0u32; 786432];
-    with_room(&mut buf, &mut t);
+    with_room(&rt, &mut buf, &mut t)
 }

@@ -15,7 +15,7 @@ ghost use Rattle.reader.specs.Answers.{Answers, failed};
 ghost use Rattle.reader.specs.Exports.{in_front, Reports, Shows};
 
 // What a reading answers. specs/Answers.antt gives the number of each case.
-#[derive(Drop)]
+#[derive(Clone, Copy)]
 pub enum Answer {
     Accepted { taken: usize, nodes: usize },
     Unfinished { wanted: usize },
