@@ -14,14 +14,14 @@ ghost use Rattle.table.specs.Cursor.{first_failure};
 ghost use Rattle.parser_core.specs.Scanned.{Ends, Opened, value_of, valued_digits, Counts, Overruns, Counts64, Headers};
 
 // A number's value, as long as it is not too large.
-#[derive(Drop)]
+#[derive(Clone, Copy)]
 enum Value {
     Fits(u64),
     Large,
 }
 
 // A run of digits: where it ends and its value; the buffer ends first; no digit, or too large.
-#[derive(Drop)]
+#[derive(Clone, Copy)]
 enum Numeral {
     Value { next: usize, value: u64 },
     Short,

@@ -14,7 +14,7 @@ ghost use Rattle.rfc5464.specs.Content.{Spelled, Checked};
 
 // Where the check of a name is: at its beginning; before an optional /admin, before /vendor or /comment, before a path, at
 // a place in the name; at its end, either way.
-#[derive(Drop)]
+#[derive(Clone, Copy)]
 enum EntryParseStage {
     PrivateShared,
     Admin(usize),
