@@ -4,7 +4,7 @@
  * written overlaps nothing else. No function allocates, keeps a pointer, or calls anything outside the library but the C
  * library's memset and memcpy. A reading takes some 40 KB of stack.
  *
- * Link libreader.a (`rt staticlib reader` writes it to target/staticlib): cc -Iinclude main.c target/staticlib/libreader.a
+ * Link libreader.a (`oracle/lib` writes it to target/staticlib, for x86-64): cc -Iinclude main.c target/staticlib/libreader.a
  *
  * docs/RULES.md begins with what a caller must know: look at the byte after `taken`; ask rule 22 before rule 23; a bytes node was
  * quoted, and has backslashes to undo, if the byte before its start is a quote; how large a table must be.
