@@ -258,12 +258,18 @@ pub fn buffer() -> [u8; 4096]
     [0; 4096]
 }
 
-// The number of an error, as errno has it; EIO where the error is not the system's.
-fn number_of(e: io::Error) -> u8 {
+// The number of an error, as errno has it and never 0; EIO where the error is not the system's.
+fn number_of(e: io::Error) -> u8
+    ensures { 0 < result }
+{
     let Some(code) = e.raw_os_error() else {
         return 5;
     };
-    u8::try_from(code).unwrap_or(5)
+    let number = u8::try_from(code).unwrap_or(5);
+    if number == 0 {
+        return 5;
+    }
+    number
 }
 
 // 0; or the buffer's length, where the write failed, and the error's number.

@@ -8,6 +8,9 @@ ghost use Rattle.table.specs.Promise.{Stands, Reads};
 
 // ----- sets -----
 
+// What stands between the two numbers of a range.
+const COLON: u8 = b':';
+
 // seq-number / seq-range: a range, kept as written
 fn sequence_member(s: &[u8], c: u64, t: &mut [u32]) -> u64
     requires { Stands 0 s.now c }
@@ -22,7 +25,7 @@ fn sequence_member(s: &[u8], c: u64, t: &mut [u32]) -> u64
     }
     let next = table::found_next(d);
     let first = table::found_value(d);
-    if s[next] != b':' {
+    if s[next] != COLON {
         return table::leaf(t, c, grammar::KIND_RANGE, first, first, next);
     }
     let e = parser_core::digits_32(&*s, next + 1);

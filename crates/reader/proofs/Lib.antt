@@ -1,3 +1,4 @@
+pub mod Arms
 pub mod Copies
 pub mod Demands
 pub mod Passes

@@ -150,6 +150,9 @@ fn body_inside(s: &[u8], c: u64, t: &mut [u32], left: usize) -> u64
     parser_core::char(&*s, r, b')')
 }
 
+// A multipart begins with its first body, and so with this; no other body does.
+const BODY_OPENS: u8 = b'(';
+
 // text, message, basic, multipart, in that order
 #[cycle(body_circle)]
 fn body_types(s: &[u8], c: u64, t: &mut [u32], left: usize) -> u64
@@ -163,7 +166,7 @@ fn body_types(s: &[u8], c: u64, t: &mut [u32], left: usize) -> u64
     if s.len() <= i {
         return table::FAILED;
     }
-    if s[i] == b'(' {
+    if s[i] == BODY_OPENS {
         return body_type_multipart(&*s, c, t, left);
     }
     let r = body_type_text(&*s, c, t, left);

@@ -22,9 +22,9 @@ pub leaf-requires : goal.leaf-requires
 unfolding sequence_member
 leaf-requires c = search ranges
 
-pub returns-then-s-next-ne58 : goal.returns-then-s-next-ne58
+pub returns-then-s-next-ne-COLON : goal.returns-then-s-next-ne-COLON
 unfolding sequence_member
-returns-then-s-next-ne58 c = search ranges
+returns-then-s-next-ne-COLON c = search ranges
 
 pub digits_32-e-requires : goal.digits_32-e-requires
 unfolding sequence_member

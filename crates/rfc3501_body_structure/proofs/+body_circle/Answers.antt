@@ -95,9 +95,9 @@ pub body_types-returns-then-s-i : goal.body_types-returns-then-s-i
 unfolding item lone paid plain hungry leaves_of sp many1 paren_delimited number string message_fields body_type_text body_type_message body_type_basic body_type_multipart
 body_types-returns-then-s-i t c = search bodies
 
-pub body_types-returns-then-s-i-eq40 : goal.body_types-returns-then-s-i-eq40
+pub body_types-returns-then-s-i-eq-BODY_OPENS : goal.body_types-returns-then-s-i-eq-BODY_OPENS
 unfolding item lone paid plain hungry leaves_of sp many1 paren_delimited number string message_fields body_type_text body_type_message body_type_basic body_type_multipart
-body_types-returns-then-s-i-eq40 t c = search (types_multipart, rules)
+body_types-returns-then-s-i-eq-BODY_OPENS t c = search (types_multipart, rules)
 
 pub body_types-returns-then-r : goal.body_types-returns-then-r
 unfolding item lone paid plain hungry leaves_of sp many1 paren_delimited number string message_fields body_type_text body_type_message body_type_basic body_type_multipart
