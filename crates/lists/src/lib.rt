@@ -2,171 +2,91 @@
 
 #![tactic(auto)]
 
-ghost use Rattle.grammar.specs.Notation.{sp, ◌⋯◌, exact, separated_list1, separated_list0, parenthesized_list, parenthesized_nonempty_list};
-ghost use Rattle.grammar.specs.Core.{string, astring, sequence_set, sequence_member};
-ghost use Rattle.table.specs.Promise.{Stands, Reads};
+ghost use Rattle.std.specs.Prelude.{ℕ};
+ghost use Rattle.grammar.specs.Grammar.{G};
+ghost use Rattle.grammar.specs.Notation.{sp, separated_list1, parenthesized_list};
+ghost use Rattle.grammar.specs.Core.{astring, sequence_set, sequence_member};
+ghost use Rattle.table.specs.Promise.{Room, Stands, Reads};
+ghost use Rattle.parser_core.specs.Separated.{ItemBy};
+ghost use Rattle.lists.specs.Ranges.{Ranges};
+ghost use Rattle.lists.specs.Parenthesized.{Parenthesized};
+
+use table::{Failure, IResult};
 
 // ----- sets -----
 
 // What stands between the two numbers of a range.
 const COLON: u8 = b':';
 
+// A number, and the one behind a colon, if there is one; and the place behind them.
+pub fn number_range(s: &[u8], at: usize) -> Result<(usize, u32, Option<u32>), Failure>
+    requires { Room s.now at }
+    ensures { Ranges s.now at result }
+{
+    let (next, first) = parser_core::digits_32(s, at)?;
+    if s[next] != COLON {
+        return Ok((next, first, None));
+    }
+    match parser_core::digits_32(s, next + 1) {
+        Ok((end, last)) => Ok((end, first, Some(last))),
+        Err(Failure::Refused) => Ok((next, first, None)),
+        Err(failure) => Err(failure),
+    }
+}
+
 // seq-number / seq-range: a range, kept as written
-fn sequence_member(s: &[u8], c: u64, t: &mut [u32]) -> u64
+fn sequence_member(s: &[u8], c: IResult, t: &mut [u32]) -> IResult
     requires { Stands 0 s.now c }
     ensures { Reads 0 sequence_member s.now c result t.old t.new }
 {
-    if table::FAILED <= c {
-        return c;
-    }
-    let d = parser_core::digits_32(&*s, table::place(c));
-    if table::FAILED <= d {
-        return d;
-    }
-    let next = table::found_next(d);
-    let first = table::found_value(d);
-    if s[next] != COLON {
-        return table::leaf(t, c, grammar::KIND_RANGE, first, first, next);
-    }
-    let e = parser_core::digits_32(&*s, next + 1);
-    if e == table::REFUSED {
-        return table::leaf(t, c, grammar::KIND_RANGE, first, first, next);
-    }
-    if table::FAILED <= e {
-        return e;
-    }
-    table::leaf(
-        t,
-        c,
-        grammar::KIND_RANGE,
-        first,
-        table::found_value(e),
-        table::found_next(e),
-    )
-}
-
-// "," sequence-member
-fn comma_member(s: &[u8], c: u64, t: &mut [u32]) -> u64
-    requires { Stands 0 s.now c }
-    ensures { Reads 0 (exact "," ⋯ sequence_member) s.now c result t.old t.new }
-{
-    let r = parser_core::char(&*s, c, b',');
-    if table::FAILED <= r {
-        return r;
-    }
-    sequence_member(&*s, r, t)
+    let c = c?;
+    let (next, first, last) = number_range(s, c.place)?;
+    let last = last.unwrap_or(first);
+    Ok(table::leaf(t, c, grammar::KIND_RANGE, first, last, next))
 }
 
 // sequence-set = (seq-number / seq-range) *("," sequence-set)
-pub fn sequence_set(s: &[u8], c: u64, t: &mut [u32]) -> u64
+pub fn sequence_set(s: &[u8], c: IResult, t: &mut [u32]) -> IResult
     requires { Stands 0 s.now c }
     ensures { Reads 0 sequence_set s.now c result t.old t.new }
 {
-    if table::FAILED <= c {
-        return c;
-    }
-    let k = table::inside(t.len(), c);
-    let first = sequence_member(&*s, table::start(c), &mut t[k..]);
-    if table::FAILED <= first {
-        return first;
-    }
-    let mut e = first;
-    let mut count: u32 = 1;
-    loop {
-        let r = comma_member(&*s, e, &mut t[k..]);
-        if table::FAILED <= r {
-            return table::list(t, c, e, count, r);
-        }
-        e = r;
-        count += 1;
-    }
+    parser_core::separated(s, c, t, b',', sequence_member)
 }
 
 // ----- lists -----
 
 // astring *(SP astring)
-fn astrings(s: &[u8], c: u64, t: &mut [u32]) -> u64
+fn astrings(s: &[u8], c: IResult, t: &mut [u32]) -> IResult
     requires { Stands 0 s.now c }
     ensures { Reads 0 (separated_list1 sp astring) s.now c result t.old t.new }
 {
-    if table::FAILED <= c {
-        return c;
-    }
-    let k = table::inside(t.len(), c);
-    let first = parser_core::astring(&*s, table::start(c), &mut t[k..]);
-    if table::FAILED <= first {
-        return first;
-    }
-    let mut e = first;
-    let mut count: u32 = 1;
-    loop {
-        let r = parser_core::sp_astring(&*s, e, &mut t[k..]);
-        if table::FAILED <= r {
-            return table::list(t, c, e, count, r);
-        }
-        e = r;
-        count += 1;
-    }
-}
-
-// [astring *(SP astring)]
-fn opt_astrings(s: &[u8], c: u64, t: &mut [u32]) -> u64
-    requires { Stands 1 s.now c }
-    ensures { Reads 0 (separated_list0 sp astring) s.now c result t.old t.new }
-{
-    if table::FAILED <= c {
-        return c;
-    }
-    let r = astrings(&*s, c, t);
-    if r != table::REFUSED {
-        return r;
-    }
-    table::mark(&*s, c, t, grammar::KIND_LIST, 0)
+    parser_core::separated(s, c, t, b' ', parser_core::astring)
 }
 
 // parenthesized_list of astrings: at most one space before ")", and it may be empty
-pub fn parenthesized_astrings(s: &[u8], c: u64, t: &mut [u32]) -> u64
+pub fn parenthesized_astrings(s: &[u8], c: IResult, t: &mut [u32]) -> IResult
     requires { Stands 0 s.now c }
     ensures { Reads 0 (parenthesized_list astring) s.now c result t.old t.new }
 {
-    let r = parser_core::char(&*s, c, b'(');
-    let r = opt_astrings(&*s, r, t);
-    let r = parser_core::opt_space(&*s, r);
-    parser_core::char(&*s, r, b')')
+    let r = parser_core::char(s, c, b'(');
+    let r = table::opt(s, r, t, grammar::KIND_LIST, 0, astrings);
+    let r = parser_core::opt_space(s, r);
+    parser_core::char(s, r, b')')
 }
 
-// string *(SP string)
-fn strings(s: &[u8], c: u64, t: &mut [u32]) -> u64
-    requires { Stands 0 s.now c }
-    ensures { Reads 0 (separated_list1 sp string) s.now c result t.old t.new }
+// parenthesized_nonempty_list: any run of blanks before ")"
+pub fn parenthesized_nonempty_list<F: Fn(&[u8], IResult, &mut [u32]) -> IResult + Copy>(
+    s: &[u8],
+    c: IResult,
+    t: &mut [u32],
+    item: F,
+) -> IResult
+    requires stands { Stands 0 s.now c }
+    requires items { (depth : ℕ) × (g : G) × ItemBy F.Fn depth g item }
+    ensures { Parenthesized F.Fn item s.now c result t.old t.new }
 {
-    if table::FAILED <= c {
-        return c;
-    }
-    let k = table::inside(t.len(), c);
-    let first = parser_core::string(&*s, table::start(c), &mut t[k..]);
-    if table::FAILED <= first {
-        return first;
-    }
-    let mut e = first;
-    let mut count: u32 = 1;
-    loop {
-        let r = parser_core::sp_string(&*s, e, &mut t[k..]);
-        if table::FAILED <= r {
-            return table::list(t, c, e, count, r);
-        }
-        e = r;
-        count += 1;
-    }
-}
-
-// parenthesized_nonempty_list of strings: any run of blanks before ")"
-pub fn parenthesized_strings(s: &[u8], c: u64, t: &mut [u32]) -> u64
-    requires { Stands 0 s.now c }
-    ensures { Reads 0 (parenthesized_nonempty_list string) s.now c result t.old t.new }
-{
-    let r = parser_core::char(&*s, c, b'(');
-    let r = strings(&*s, r, t);
-    let r = parser_core::space0(&*s, r);
-    parser_core::char(&*s, r, b')')
+    let r = parser_core::char(s, c, b'(');
+    let r = parser_core::separated(s, r, t, b' ', item);
+    let r = parser_core::space0(s, r);
+    parser_core::char(s, r, b')')
 }

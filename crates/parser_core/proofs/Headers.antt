@@ -1,7 +1,6 @@
 -- A literal's header: the digits of its count are a number's digits, and what follows them is compared.
 use Prim.Native.Char.{code}
-use Prim.Native.Nat.{ℕ, zero, suc, ◌+◌, ◌-◌, ◌*◌, ◌/◌, ◌%◌, ◌≤◌, ◌<◌}
-use mathlib.Core.Logic.{◌⊎◌, inl, inr, ⊎_elim}
+use Rattle.std.proofs.Common.{Result, Ok, Err, ℕ, zero, suc, ◌+◌, ◌-◌, ◌*◌, ◌/◌, ◌%◌, ◌≤◌, ◌<◌}
 use mathlib.Core.Path.{◌≡◌, refl, sym, ap, subst, ◌∙◌}
 use mathlib.Core.Bool.{Bool, true, false, ◌&&◌}
 use mathlib.Core.List.{List, [], ◌∷◌}
@@ -9,19 +8,23 @@ use native.Mathlib.Omega.{arith}
 use native.Mathlib.Numerals.{add-one}
 use lib.ListN.{length, drop, get_or}
 use lib.Dec.{leb, eqb, leb→le}
-use borrow.Author.Rules.{rules}
+use Rattle.std.proofs.Common.{rules}
 use borrow.Author.Tests.{leb-true, leb-false, le-leb, lt-leb, ne_eqb}
-use Rattle.grammar.specs.Kinds.{kind_bytes, kind_number}
+use Rattle.grammar.specs.Kinds.{kind_bytes}
 use Rattle.grammar.specs.Forest.{node_of}
 use Rattle.grammar.specs.Out.{took, more, refused, branch}
-use Rattle.grammar.specs.Scan.{on, fail, Scanned, ended, short, failed, moved, scan, digit, digits, digits_move, header_move, largest_32, two_32, content, literal_at, leaf_found, leaf_at, leaf_move, first_state, leaf_fits, leaf_nodes}
+use Rattle.grammar.specs.Scan.{on, fail, Scanned, ended, short, failed, moved, scan, digit, digits_move, header_move, largest_32, content, literal_at}
 use Rattle.grammar.specs.Grammar.{literal}
 use Rattle.grammar.proofs.Tests.{branch_ind, T_right}
 use Rattle.grammar.proofs.Scans.{Scans, Moves, goes_on, ends_before, ends_after, fails, Takes, scan_ind, scan_end, scan_bounds, scan_takes, scans_at}
-use Rattle.table.specs.Cursor.{first_failure, refusal}
-use Rattle.table.specs.Promise.{Room, Stands, Goes, Placed, Leafed}
+use Rattle.table.specs.declared.Cursor.{Cursor}
+use Rattle.table.specs.declared.Failure.{Failure}
+use Rattle.table.specs.declared.Failure.TheVariants as failure
+use Rattle.table.specs.Cursor.{IResult}
+use Rattle.table.specs.Promise.{Room, Stands, Goes, Leafed}
 use Rattle.table.proofs.Going.{short_of, refuses, wants, leaves, literal_still, literal_lays}
 use Rattle.table.proofs.Bounds.{room}
+use Rattle.table.proofs.Cursors.{went_on, came_back, handed_back}
 use Rattle.table.proofs.Search.{reads}
 use Rattle.parser_core.specs.Scanned.{number_of, header_of, Counts, Headers}
 use Rattle.parser_core.proofs.Scanning.{Scanning, scanning_starts, scanning_on, scanning_short, scanning_fails, scanning_ends_after}
@@ -86,70 +89,56 @@ digits_here s at l =
     (λ t. branch_ind (Moves (λ i q v. Unit {0}) (λ e v. e < length s) i) (eqb q 0) _ _ (λ t. fails) (λ t. ends_before h)))
     at 0 0 l tt
 
--- what a number's digits give, by the number that the code has of them
-abbrev count_of : ℕ → Scanned → ℕ
-count_of at x = number_of (leaf_found (digits largest_32) at x)
-
-counts_by : {s : List ℕ} {at d : ℕ} → Counts s at d → d ≡ count_of at (scan digits_move 0 0 (drop at s) at)
-unfolding leaf_at leaf_move first_state
-counts_by counts = counts.is
-
-module _ {s : List ℕ} {i d : ℕ} (counts : Counts s i d) where
-  pub counts_ended : d < first_failure → scan digits_move 0 0 (drop i s) i ≡ ended (d / 4294967296) (d % 4294967296)
-  unfolding leaf_fits leaf_nodes
-  counts_ended h = go (scan digits_move 0 0 (drop i s) i) (counts_by counts)
+-- what counted digits say of their scan
+module _ {s : List ℕ} {i : ℕ} {r : Result (ℕ × ℕ) Failure} (counts : Counts largest_32 s i r) where
+  -- the digits of a number, and its value is in range
+  counts_ended : {p : ℕ × ℕ} → r ≡ Ok p → (scan digits_move 0 0 (drop i s) i ≡ ended p.0 p.1) × (p.1 ≤ largest_32)
+  counts_ended {p} h = go (scan digits_move 0 0 (drop i s) i) (sym counts.is ∙ h)
     where
-      fits : (e v : ℕ) (b : Bool) → leb v largest_32 ≡ b
-          → d ≡ number_of (branch b (λ u. took e (node_of kind_number (v % two_32) (v / two_32))) (λ u. refused))
-          → ended e v ≡ ended (d / 4294967296) (d % 4294967296)
-      fits e v true l p =
-          let m = leb-true v largest_32 l in
-          let a : e ≡ d / 4294967296 = omega arith in
-          let c : v ≡ d % 4294967296 = omega arith in
-          cc
-      fits e v false l p = absurd (omega arith)
+      fits : (e v : ℕ) (b : Bool) → leb v largest_32 ≡ b → branch b (λ u. Ok (e, v)) (λ u. Err failure.Refused) ≡ Ok p → (ended e v ≡ ended p.0 p.1) × (p.1 ≤ largest_32)
+      fits e v true l q =
+          let z : ◌≡◌ {A = Result (ℕ × ℕ) Failure} (Ok (e, v)) (Ok p) = q in
+          let w : ◌≡◌ {A = ℕ × ℕ} (e, v) p = cc in
+          (ap (λ (x : ℕ × ℕ). ended x.0 x.1) w, omega (arith, leb-true v largest_32 l, ap (λ (x : ℕ × ℕ). x.1) w))
+      fits e v false l q = absurd (let z : ◌≡◌ {A = Result (ℕ × ℕ) Failure} (Err failure.Refused) (Ok p) = q in cc)
 
-      go : (x : Scanned) → d ≡ count_of i x → x ≡ ended (d / 4294967296) (d % 4294967296)
-      go (ended e v) p = fits e v (leb v largest_32) refl p
-      go short p = absurd (omega arith)
-      go failed p = absurd (omega arith)
+      go : (x : Scanned) → number_of largest_32 x ≡ Ok p → (x ≡ ended p.0 p.1) × (p.1 ≤ largest_32)
+      go (ended e v) q = fits e v (leb v largest_32) refl q
+      go short q = absurd (let z : ◌≡◌ {A = Result (ℕ × ℕ) Failure} (Err (failure.Unfinished 0)) (Ok p) = q in cc)
+      go failed q = absurd (let z : ◌≡◌ {A = Result (ℕ × ℕ) Failure} (Err failure.Refused) (Ok p) = q in cc)
 
   -- no number: the header fails as its digits do
-  counts_failed : (h : Scanned) → first_failure ≤ d → length s < first_failure / 4294967296 → i ≤ length s → Follows s h (scan digits_move 0 0 (drop i s) i) → d ≡ header_of h
-  unfolding leaf_fits leaf_nodes
-  counts_failed h l small inside = go (scan digits_move 0 0 (drop i s) i) refl (counts_by counts)
+  counts_failed : (h : Scanned) {f : Failure} → r ≡ Err f → Follows s h (scan digits_move 0 0 (drop i s) i) → header_of h ≡ Err f
+  counts_failed h {f} l = go (scan digits_move 0 0 (drop i s) i) (sym counts.is ∙ l)
     where
-      fits : (e v : ℕ) (b : Bool) → leb v largest_32 ≡ b → e < length s
-          → d ≡ number_of (branch b (λ u. took e (node_of kind_number (v % two_32) (v / two_32))) (λ u. refused))
+      fits : (e v : ℕ) (b : Bool) → branch {A = Result (ℕ × ℕ) Failure} b (λ u. Ok (e, v)) (λ u. Err failure.Refused) ≡ Err f
           → h ≡ moved (branch (eqb (get_or s e 0) (code "}") && b) (λ u. on 3 v) (λ u. fail)) e (λ state value. scan header_move state value (drop (suc e) s) (suc e))
-          → d ≡ header_of h
-      fits e v true m k p f = absurd (omega arith)
-      fits e v false m k p f = p ∙ sym (ap header_of (f ∙ none (eqb (get_or s e 0) (code "}"))))
+          → header_of h ≡ Err f
+      fits e v true p q = absurd (let z : ◌≡◌ {A = Result (ℕ × ℕ) Failure} (Ok (e, v)) (Err f) = p in cc)
+      fits e v false p q = ap header_of (q ∙ none (eqb (get_or s e 0) (code "}"))) ∙ p
         where
           none : (x : Bool) → moved (branch (x && false) (λ u. on 3 v) (λ u. fail)) e (λ state value. scan header_move state value (drop (suc e) s) (suc e)) ≡ failed
           none true = refl
           none false = refl
 
-      go : (x : Scanned) → scan digits_move 0 0 (drop i s) i ≡ x → d ≡ count_of i x → Follows s h x → d ≡ header_of h
-      go (ended e v) q p f = fits e v (leb v largest_32) refl (scans_at (digits_here s i inside) q) p f
-      go short q p f = p ∙ sym (ap header_of f)
-      go failed q p f = p ∙ sym (ap header_of f)
+      go : (x : Scanned) → number_of largest_32 x ≡ Err f → Follows s h x → header_of h ≡ Err f
+      go (ended e v) p q = fits e v (leb v largest_32) p q
+      go short p q = ap header_of q ∙ p
+      go failed p q = ap header_of q ∙ p
 
   -- the byte behind the digits
-  module _ {e : ℕ} (l : d < first_failure) (p : e ≡ d / 4294967296) where
-    pub count_ends : e < length s
-    count_ends = go (leb i (length s)) refl
-      where
-        go : (b : Bool) → leb i (length s) ≡ b → e < length s
-        go true q = omega (arith, scans_at (digits_here s i (leb-true i (length s) q)) (counts_ended l))
-        go false q =
-            let k = leb-false i (length s) q in
-            let z : short ≡ ended (d / 4294967296) (d % 4294967296) = sym (scan_end digits_move s 0 0 i (omega arith)) ∙ counts_ended l in
-            let y : ◌≡◌ {A = ℕ} 0 1 = cc in
-            absurd (omega arith)
+  pub count_ends : {e v : ℕ} → r ≡ Ok (e, v) → e < length s
+  count_ends {e} {v} l = go (leb i (length s)) refl
+    where
+      go : (b : Bool) → leb i (length s) ≡ b → e < length s
+      go true q = scans_at (digits_here s i (leb-true i (length s) q)) (counts_ended l).0
+      go false q =
+          let k = leb-false i (length s) q in
+          let z : short ≡ ended e v = sym (scan_end digits_move s 0 0 i (omega arith)) ∙ (counts_ended l).0 in
+          absurd cc
 
-pub count_room : {s : List ℕ} {at i d e : ℕ} → e ≡ d / 4294967296 → d < first_failure → Counts s i d → Room s at → Room s (e + 1)
-count_room p l counts room = record { inside = omega (arith, count_ends counts l p); small = room.small }
+pub count_room : {s : List ℕ} {at i e v : ℕ} {r : Result (ℕ × ℕ) Failure} → Counts largest_32 s i r → r ≡ Ok (e, v) → Room s at → Room s (e + 1)
+count_room counts l room = record { inside = omega (arith, count_ends counts l); small = room.small }
 
 -- the line end -------------------------------------------------------------------------------------------------------------------
 
@@ -157,56 +146,56 @@ headers_by : {q v : ℕ} {s : List ℕ} {at : ℕ} (x : Scanned) → scan header
 headers_by x p = record { is = sym (ap header_of p) }
 
 -- the buffer ends
-pub header_short : {q v : ℕ} {s : List ℕ} {at : ℕ} → length s ≤ at → Headers q v s at first_failure
+pub header_short : {q v : ℕ} {s : List ℕ} {at : ℕ} → length s ≤ at → Headers q v s at (Err (failure.Unfinished 0))
 header_short {q} {v} {s} {at} h = headers_by short (scan_end header_move s q v at h)
 
 module _ {n : ℕ} {s : List ℕ} {at : ℕ} (h : at < length s) where
-  pub line_wrong : (get_or s at 0 ≡ code "\r" → ⊥) → Headers 3 n s at refusal
+  pub line_wrong : (get_or s at 0 ≡ code "\r" → ⊥) → Headers 3 n s at (Err failure.Refused)
   line_wrong p = headers_by failed (scanning_fails (scanning_starts (omega arith)) h (rw (ne_eqb (get_or s at 0) (code "\r") p)))
 
   module _ (p : get_or s at 0 ≡ code "\r") where
     behind_cr : Scanning header_move 3 n s at 4 n (at + 1)
     behind_cr = scanning_on (scanning_starts (omega arith)) h (rw p)
 
-    pub line_short : length s ≤ at + 1 → Headers 3 n s at first_failure
+    pub line_short : length s ≤ at + 1 → Headers 3 n s at (Err (failure.Unfinished 0))
     line_short k = headers_by short (scanning_short behind_cr k)
 
-    pub line_wrong_2 : at + 1 < length s → (get_or s (at + 1) 0 ≡ code "\n" → ⊥) → Headers 3 n s at refusal
+    pub line_wrong_2 : at + 1 < length s → (get_or s (at + 1) 0 ≡ code "\n" → ⊥) → Headers 3 n s at (Err failure.Refused)
     line_wrong_2 k q = headers_by failed (scanning_fails behind_cr k (rw (ne_eqb (get_or s (at + 1) 0) (code "\n") q)))
 
-    pub line_done : {d : ℕ} → at + 1 < length s → get_or s (at + 1) 0 ≡ code "\n" → d ≡ (at + 1 + 1) * 4294967296 + n → Headers 3 n s at d
-    line_done k q e = record { is = e ∙ sym (ap header_of (scanning_ends_after behind_cr k (rw q))) }
+    pub line_done : at + 1 < length s → get_or s (at + 1) 0 ≡ code "\n" → Headers 3 n s at (Ok (at + 1 + 1, n))
+    line_done k q = headers_by (ended (at + 1 + 1) n) (scanning_ends_after behind_cr k (rw q))
 
 -- the whole header ---------------------------------------------------------------------------------------------------------------
 
 module _ {s : List ℕ} {at : ℕ} (h : at < length s) where
-  pub header_wrong : (get_or s at 0 ≡ code "{" → ⊥) → Headers 0 0 s at refusal
+  pub header_wrong : (get_or s at 0 ≡ code "{" → ⊥) → Headers 0 0 s at (Err failure.Refused)
   header_wrong p = headers_by failed (scanning_fails (scanning_starts (omega arith)) h (rw (ne_eqb (get_or s at 0) (code "{") p)))
 
-  -- behind the opening brace the count d was found
-  module _ {d : ℕ} (p : get_or s at 0 ≡ code "{") (counts : Counts s (at + 1) d) where
+  -- behind the opening brace the count was found
+  module _ {r : Result (ℕ × ℕ) Failure} (p : get_or s at 0 ≡ code "{") (counts : Counts largest_32 s (at + 1) r) where
     opening : Scanning header_move 0 0 s at 1 0 (at + 1)
     opening = scanning_on (scanning_starts (omega arith)) h (rw p)
 
     behind_open : scan header_move 1 0 (drop (at + 1) s) (at + 1) ≡ scan header_move 0 0 (drop at s) at
     behind_open = opening.same
 
-    pub no_count : Room s at → first_failure ≤ d → Headers 0 0 s at d
-    no_count room l = record {
-      is = counts_failed counts (scan header_move 1 0 (drop (at + 1) s) (at + 1)) l (omega (arith, room.small)) (omega arith) (header_follows s (at + 1)) ∙ ap header_of behind_open;
+    pub no_count : {q : Result (ℕ × ℕ) Failure} {f : Failure} → r ≡ Err f → q ≡ Err f → Headers 0 0 s at q
+    no_count l e = record {
+      is = e ∙ sym (counts_failed counts (scan header_move 1 0 (drop (at + 1) s) (at + 1)) l (header_follows s (at + 1))) ∙ ap header_of behind_open;
     }
 
-    module _ {e : ℕ} (l : d < first_failure) (q : e ≡ d / 4294967296) where
-      followed : scan header_move 0 0 (drop at s) at ≡ brace s e (d % 4294967296)
-      followed = sym behind_open ∙ subst (Follows s (scan header_move 1 0 (drop (at + 1) s) (at + 1))) (counts_ended counts l) (header_follows s (at + 1)) ∙ ap (λ (k : ℕ). brace s k (d % 4294967296)) (sym q)
+    module _ {e v : ℕ} (l : r ≡ Ok (e, v)) where
+      followed : scan header_move 0 0 (drop at s) at ≡ brace s e v
+      followed = sym behind_open ∙ subst (Follows s (scan header_move 1 0 (drop (at + 1) s) (at + 1))) (counts_ended counts l).0 (header_follows s (at + 1))
 
-      pub no_brace : (get_or s e 0 ≡ code "}" → ⊥) → Headers 0 0 s at refusal
+      pub no_brace : (get_or s e 0 ≡ code "}" → ⊥) → Headers 0 0 s at (Err failure.Refused)
       no_brace n = headers_by failed (followed ∙ rw (ne_eqb (get_or s e 0) (code "}") n))
 
-      pub with_brace : {v r : ℕ} → v ≡ d % 4294967296 → get_or s e 0 ≡ code "}" → Headers 3 v s (e + 1) r → Headers 0 0 s at r
-      with_brace {v} {r} w b x =
-          let z : brace s e v ≡ scan header_move 3 v (drop (e + 1) s) (e + 1) = rw (b, le-leb v largest_32 (omega arith), add-one e) in
-          record { is = x.is ∙ ap header_of (sym z ∙ ap (λ (k : ℕ). brace s e k) w ∙ sym followed) }
+      pub with_brace : {x : Result (ℕ × ℕ) Failure} → get_or s e 0 ≡ code "}" → Headers 3 v s (e + 1) x → Headers 0 0 s at x
+      with_brace b x =
+          let z : brace s e v ≡ scan header_move 3 v (drop (e + 1) s) (e + 1) = rw (b, le-leb v largest_32 (counts_ended counts l).1, add-one e) in
+          record { is = x.is ∙ ap header_of (sym z ∙ sym followed) }
 
 -- what a literal's reader makes of its header -----------------------------------------------------------------------------------
 
@@ -240,79 +229,84 @@ begins {s} {at} l p = record {
   few = scans_at (scan_ind header_move s (λ i q v. Small q v) (λ e v. v ≤ largest_32) (λ i q v h x. small_moves i q v (get_or s i 0) x) at 0 0 l tt) p;
 }
 
-module _ {s : List ℕ} {at h : ℕ} (room : Room s at) (headers : Headers 0 0 s at h) where
-  headers_ended : h < first_failure → scan header_move 0 0 (drop at s) at ≡ ended (h / 4294967296) (h % 4294967296)
-  headers_ended l = go (scan header_move 0 0 (drop at s) at) refl headers.is
+module _ {s : List ℕ} {at : ℕ} {h : Result (ℕ × ℕ) Failure} (room : Room s at) (headers : Headers 0 0 s at h) where
+  headers_ended : {p : ℕ × ℕ} → h ≡ Ok p → scan header_move 0 0 (drop at s) at ≡ ended p.0 p.1
+  headers_ended {p} l = go (scan header_move 0 0 (drop at s) at) (sym headers.is ∙ l)
     where
-      go : (x : Scanned) → scan header_move 0 0 (drop at s) at ≡ x → h ≡ header_of x → x ≡ ended (h / 4294967296) (h % 4294967296)
-      go (ended start count) q p =
-          let few = (begins room.inside q).few in
-          let a : start ≡ h / 4294967296 = omega arith in
-          let c : count ≡ h % 4294967296 = omega arith in
-          cc
-      go short q p = absurd (omega arith)
-      go failed q p = absurd (omega arith)
+      go : (x : Scanned) → header_of x ≡ Ok p → x ≡ ended p.0 p.1
+      go (ended start count) q =
+          let z : ◌≡◌ {A = Result (ℕ × ℕ) Failure} (Ok (start, count)) (Ok p) = q in
+          let w : ◌≡◌ {A = ℕ × ℕ} (start, count) p = cc in
+          ap (λ (x : ℕ × ℕ). ended x.0 x.1) w
+      go short q = absurd (let z : ◌≡◌ {A = Result (ℕ × ℕ) Failure} (Err (failure.Unfinished 0)) (Ok p) = q in cc)
+      go failed q = absurd (let z : ◌≡◌ {A = Result (ℕ × ℕ) Failure} (Err failure.Refused) (Ok p) = q in cc)
 
-  module _ {start : ℕ} (l : h < first_failure) (p : start ≡ h / 4294967296) where
-    -- where the content begins
+  module _ {start count : ℕ} (l : h ≡ Ok (start, count)) where
+    -- where the content begins, and how long it may be
     pub content_after : at < start
-    content_after = omega (arith, (begins room.inside (headers_ended l)).low)
+    content_after = (begins room.inside (headers_ended l)).low
 
     pub content_inside : start ≤ length s
-    content_inside = omega (arith, (begins room.inside (headers_ended l)).high)
+    content_inside = (begins room.inside (headers_ended l)).high
 
-    module _ {count : ℕ} (q : count ≡ h % 4294967296) where
-      found : (b : Bool) → leb (start + count) (length s) ≡ b
-          → literal_at s at ≡ branch b (λ u. took (start + count) (node_of kind_bytes start (start + count))) (λ u. more ((start + count) - length s))
-      unfolding literal_at
-      found b e = ap (content (length s)) (headers_ended l) ∙ rw (sym p, sym q, e)
+    pub content_few : count ≤ largest_32
+    content_few = (begins room.inside (headers_ended l)).few
 
-      -- it is there
-      pub content_there : start + count ≤ length s → literal_at s at ≡ took (start + count) (node_of kind_bytes start (start + count))
-      content_there k = found true (le-leb (start + count) (length s) k)
+    found : (b : Bool) → leb (start + count) (length s) ≡ b
+        → literal_at s at ≡ branch b (λ u. took (start + count) (node_of kind_bytes start (start + count))) (λ u. more ((start + count) - length s))
+    unfolding literal_at
+    found b e = ap (content (length s)) (headers_ended l) ∙ rw e
 
-      -- bytes of it are missing
-      pub content_missing : length s < start + count → literal_at s at ≡ more ((start + count) - length s)
-      content_missing k = found false (lt-leb (start + count) (length s) k)
+    -- it is there
+    pub content_there : start + count ≤ length s → literal_at s at ≡ took (start + count) (node_of kind_bytes start (start + count))
+    content_there k = found true (le-leb (start + count) (length s) k)
+
+    -- bytes of it are missing
+    pub content_missing : length s < start + count → literal_at s at ≡ more ((start + count) - length s)
+    content_missing k = found false (lt-leb (start + count) (length s) k)
 
   -- no header: unfinished, or not the grammar
-  pub header_fails : first_failure ≤ h → ((h ≡ first_failure) × (literal_at s at ≡ more 0)) ⊎ ((h ≡ refusal) × (literal_at s at ≡ refused))
+  pub header_fails : {A : Type 0} {f : Failure} → h ≡ Err f → (literal_at s at ≡ more 0 → f ≡ failure.Unfinished 0 → A) → (literal_at s at ≡ refused → f ≡ failure.Refused → A) → A
   unfolding literal_at
-  header_fails l = go (scan header_move 0 0 (drop at s) at) refl headers.is
+  header_fails {A} {f} l a b = go (scan header_move 0 0 (drop at s) at) refl (sym headers.is ∙ l)
     where
-      go : (x : Scanned) → scan header_move 0 0 (drop at s) at ≡ x → h ≡ header_of x
-          → ((h ≡ first_failure) × (content (length s) x ≡ more 0)) ⊎ ((h ≡ refusal) × (content (length s) x ≡ refused))
-      go (ended start count) q p = let b = begins room.inside q in absurd (omega (arith, b.high, b.few, room.small))
-      go short q p = inl (p, refl)
-      go failed q p = inr (p, refl)
+      go : (x : Scanned) → scan header_move 0 0 (drop at s) at ≡ x → header_of x ≡ Err f → A
+      go (ended start count) p q = absurd (let z : ◌≡◌ {A = Result (ℕ × ℕ) Failure} (Ok (start, count)) (Err f) = q in cc)
+      go short p q = a (ap (content (length s)) p) (let z : ◌≡◌ {A = Result (ℕ × ℕ) Failure} (Err (failure.Unfinished 0)) (Err f) = q in cc)
+      go failed p q = b (ap (content (length s)) p) (let z : ◌≡◌ {A = Result (ℕ × ℕ) Failure} (Err failure.Refused) (Err f) = q in cc)
 
--- so of its cursor
-module _ {s : List ℕ} {c at h : ℕ} (going : c < first_failure) (stands : Stands 0 s c) (placed : Placed c at) (headers : Headers 0 0 s at h) where
-  pub literal_fails : {t : List ℕ} → first_failure ≤ h → Goes 0 literal s c h t t
-  literal_fails {t} l =
-      ⊎_elim (λ x. subst (λ (k : ℕ). Goes 0 literal s c k t t) (sym x.0) (short_of going stands placed (literal_still (more 0) (λ u. refl) x.1)))
-      (λ x. subst (λ (k : ℕ). Goes 0 literal s c k t t) (sym x.0) (refuses going stands placed (literal_still refused (λ u. refl) x.1)))
-      (header_fails (room going stands placed) headers l)
+-- so of its reader
+module _ {s : List ℕ} {c : IResult} {at : Cursor} {h : Result (ℕ × ℕ) Failure} (going : c ≡ Ok at) (stands : Stands 0 s c) (headers : Headers 0 0 s at.place h) where
+  pub literal_fails : {q : IResult} {f : Failure} {t : List ℕ} → h ≡ Err f → q ≡ Err f → Goes 0 literal s c q t t
+  literal_fails {t = t} l back =
+      header_fails (room going stands) headers l
+      (λ p e. subst (λ (k : IResult). Goes 0 literal s c k t t) (sym (back ∙ ap Err e)) (short_of going stands (literal_still (more 0) (λ u. refl) p)))
+      (λ p e. subst (λ (k : IResult). Goes 0 literal s c k t t) (sym (back ∙ ap Err e)) (refuses going stands (literal_still refused (λ u. refl) p)))
 
-  module _ {start count : ℕ} (l : h < first_failure) (p : start ≡ h / 4294967296) (e : count ≡ h % 4294967296) where
-    -- the bytes that are missing are few
-    pub literal_few : length s < start + count → (start + count) - length s ≤ 4294967296
-    literal_few k = omega (arith, content_inside (room going stands placed) headers l p)
+  module _ {start count : ℕ} (l : h ≡ Ok (start, count)) where
+    -- the sum of its start and its length is no large number
+    pub literal_sum : start + count < 18446744073709551616
+    literal_sum = let k = room going stands in omega (arith, content_inside k headers l, content_few k headers l, stands.small)
 
-    pub literal_wants : {q : ℕ} {t : List ℕ} → length s < start + count → q ≡ first_failure + ((start + count) - length s) → Goes 0 literal s c q t t
-    literal_wants {q} {t} k w =
-        subst (λ (k : ℕ). Goes 0 literal s c k t t) (sym w)
-        (wants going stands placed ((start + count) - length s) (literal_few k)
-        (literal_still (more ((start + count) - length s)) (λ u. refl) (content_missing (room going stands placed) headers l p e k)))
+    pub literal_start : start < 4294967296
+    literal_start = let k = room going stands in omega (arith, content_inside k headers l, stands.small)
 
-    pub literal_goes : {q : ℕ} {t t' : List ℕ} → start + count ≤ length s → Leafed kind_bytes start (start + count) (start + count) c q t t' → Goes 0 literal s c q t t'
+    pub literal_end : start + count ≤ length s → start + count < 4294967296
+    literal_end k = omega (arith, stands.small)
+
+    pub literal_wants : {t : List ℕ} → length s < start + count → Goes 0 literal s c (Err (failure.Unfinished ((start + count) - length s))) t t
+    literal_wants k =
+        wants going stands ((start + count) - length s)
+        (literal_still (more ((start + count) - length s)) (λ u. refl) (content_missing (room going stands) headers l k))
+
+    pub literal_goes : {q : Cursor} {t t' : List ℕ} → start + count ≤ length s → Leafed kind_bytes start (start + count) (start + count) at q t t' → Goes 0 literal s c (Ok q) t t'
     literal_goes k w =
-        leaves going stands placed (literal_lays (content_there (room going stands placed) headers l p e k))
-        (omega (arith, content_after (room going stands placed) headers l p)) k w
+        leaves going stands (literal_lays (content_there (room going stands) headers l k))
+        (omega (arith, content_after (room going stands) headers l)) k w
 
 -- what `search` is to know
 pub ruleset line = (header_short, line_wrong, line_short, line_wrong_2, line_done, rules)
 
-pub ruleset heading = (header_short, header_wrong, no_count, count_ends, count_room, no_brace, with_brace, rules)
+pub ruleset heading = (header_short, header_wrong, no_count, count_ends, count_room, no_brace, with_brace, went_on, came_back, handed_back, rules)
 
-pub ruleset literals = (content_inside, literal_fails, literal_few, literal_wants, literal_goes, reads)
+pub ruleset literals = (content_inside, literal_fails, literal_sum, literal_start, literal_end, literal_wants, literal_goes, reads)

@@ -1,5 +1,5 @@
 -- From what a scan found to what its reader promises, for every leaf.
-use Prim.Native.Nat.{ℕ, suc, ◌≤◌, ◌<◌}
+use Rattle.std.proofs.Common.{Result, Ok, Err, ℕ, suc, ◌≤◌, ◌<◌}
 use mathlib.Core.Path.{◌≡◌, refl, sym, ap, subst, ◌∙◌}
 use mathlib.Core.Bool.{Bool, true, false}
 use mathlib.Core.List.{List, [], ◌∷◌}
@@ -14,8 +14,11 @@ use Rattle.grammar.specs.Grammar.{leaf, does, node, run}
 use Rattle.grammar.specs.Rules.{levels}
 use Rattle.grammar.proofs.On.{at_took}
 use Rattle.grammar.proofs.Stays.{run_stays, levels_stay}
-use Rattle.table.specs.Cursor.{first_failure, refusal}
-use Rattle.table.specs.Promise.{Room, Stands, Goes, Skims, Placed, Moved, Leafed}
+use Rattle.table.specs.declared.Cursor.{Cursor}
+use Rattle.table.specs.declared.Failure.{Failure}
+use Rattle.table.specs.declared.Failure.TheVariants as failure
+use Rattle.table.specs.Cursor.{IResult}
+use Rattle.table.specs.Promise.{Room, Stands, Goes, Skims, Moved, Leafed}
 use Rattle.table.proofs.Going.{Still, skim, short_of, refuses, skims_moves, leaves, leaves_spare, leaf_still}
 use Rattle.table.proofs.Bounds.{room, spares_none}
 use Rattle.table.proofs.Structure.{node_still, node_lays}
@@ -43,45 +46,46 @@ pub leaf_inside : (l : Leaf) (s : List ℕ) (at e : ℕ) {f : Forest} → at ≤
 unfolding run
 leaf_inside l s at e h p = at_took (run_stays (levels 0) (levels_stay 0) (leaf l) s at h) p
 
-module _ {l : Leaf} {s : List ℕ} {at r : ℕ} (ends : Ends l s at r) (h : Room s at) where
+module _ {l : Leaf} {s : List ℕ} {at : ℕ} {r : Result ℕ Failure} (ends : Ends l s at r) (h : Room s at) where
   -- a scan that failed
-  pub scan_failed : {A : Type 0} → first_failure ≤ r → (leaf_at l s at ≡ more 0 → r ≡ first_failure → A) → (leaf_at l s at ≡ refused → r ≡ refusal → A) → A
-  scan_failed fails a b =
+  pub scan_failed : {A : Type 0} {f : Failure} → r ≡ Err f → (leaf_at l s at ≡ more 0 → f ≡ failure.Unfinished 0 → A) → (leaf_at l s at ≡ refused → f ≡ failure.Refused → A) → A
+  scan_failed {f = f} fails a b =
       leaf_cases l s at
-      (λ e v p. absurd (omega (arith, (leaf_inside l s at e h.inside p).1, h.small, ends.is ∙ ap end_of p)))
-      (λ p. a p (ends.is ∙ ap end_of p ∙ omega arith))
-      (λ p. b p (ends.is ∙ ap end_of p))
+      (λ e v p. absurd (let z : ◌≡◌ {A = Result ℕ Failure} (Ok e) (Err f) = sym (ends.is ∙ ap end_of p) ∙ fails in cc))
+      (λ p. a p (let z : ◌≡◌ {A = Result ℕ Failure} (Err (failure.Unfinished 0)) (Err f) = sym (ends.is ∙ ap end_of p) ∙ fails in cc))
+      (λ p. b p (let z : ◌≡◌ {A = Result ℕ Failure} (Err failure.Refused) (Err f) = sym (ends.is ∙ ap end_of p) ∙ fails in cc))
 
   -- and one that did not
-  pub scan_took : {A : Type 0} → r < first_failure → ((v : ℕ) → leaf_at l s at ≡ took r (leaf_nodes l at r v) → at ≤ r → r ≤ length s → A) → A
-  scan_took less a =
+  pub scan_took : {A : Type 0} {e : ℕ} → r ≡ Ok e → ((v : ℕ) → leaf_at l s at ≡ took e (leaf_nodes l at e v) → at ≤ e → e ≤ length s → A) → A
+  scan_took {e = e} going a =
       leaf_cases l s at
-      (λ e v p.
-      let x = leaf_inside l s at e h.inside p in
-      let z : e ≡ r = sym (ends.is ∙ ap end_of p) in
-      a v (subst (λ (k : ℕ). leaf_at l s at ≡ took k (leaf_nodes l at k v)) z p) (omega (arith, x.0)) (omega (arith, x.1)))
-      (λ p. absurd (omega (arith, ends.is ∙ ap end_of p)))
-      (λ p. absurd (omega (arith, ends.is ∙ ap end_of p)))
+      (λ i v p.
+      let x = leaf_inside l s at i h.inside p in
+      let z : ◌≡◌ {A = Result ℕ Failure} (Ok i) (Ok e) = sym (ends.is ∙ ap end_of p) ∙ going in
+      let y : i ≡ e = cc in
+      a v (subst (λ (k : ℕ). leaf_at l s at ≡ took k (leaf_nodes l at k v)) y p) (omega (arith, x.0)) (omega (arith, x.1)))
+      (λ p. absurd (let z : ◌≡◌ {A = Result ℕ Failure} (Err (failure.Unfinished 0)) (Ok e) = sym (ends.is ∙ ap end_of p) ∙ going in cc))
+      (λ p. absurd (let z : ◌≡◌ {A = Result ℕ Failure} (Err failure.Refused) (Ok e) = sym (ends.is ∙ ap end_of p) ∙ going in cc))
 
 -- failures --------------------------------------------------------------------------------------------------------------------
 
-module _ {l : Leaf} {s : List ℕ} {c at r : ℕ} (going : c < first_failure) (stands : Stands 0 s c) (placed : Placed c at) (ends : Ends l s at r) (fails : first_failure ≤ r) where
+module _ {l : Leaf} {s : List ℕ} {c q : IResult} {at : Cursor} {r : Result ℕ Failure} {f : Failure} (going : c ≡ Ok at) (stands : Stands 0 s c) (ends : Ends l s at.place r) (fails : r ≡ Err f) (back : q ≡ Err f) where
   -- of a reader of the leaf
-  pub leaf_fails : {d : ℕ} {t : List ℕ} → Goes d (leaf l) s c r t t
+  pub leaf_fails : {d : ℕ} {t : List ℕ} → Goes d (leaf l) s c q t t
   leaf_fails {d} {t} =
-      scan_failed ends (room going stands placed) fails
-      (λ p q. subst (λ (k : ℕ). Goes d (leaf l) s c k t t) (sym q) (short_of going stands placed (leaf_still (more 0) (λ t. refl) p)))
-      (λ p q. subst (λ (k : ℕ). Goes d (leaf l) s c k t t) (sym q) (refuses going stands placed (leaf_still refused (λ t. refl) p)))
+      scan_failed ends (room going stands) fails
+      (λ p e. subst (λ (k : IResult). Goes d (leaf l) s c k t t) (sym (back ∙ ap Err e)) (short_of going stands (leaf_still (more 0) (λ t. refl) p)))
+      (λ p e. subst (λ (k : IResult). Goes d (leaf l) s c k t t) (sym (back ∙ ap Err e)) (refuses going stands (leaf_still refused (λ t. refl) p)))
 
-  pub leaf_skims_fails : Skims (leaf l) s c r
+  pub leaf_skims_fails : Skims (leaf l) s c q
   leaf_skims_fails = skim (λ t. leaf_fails)
 
   -- of one that makes its bytes a node
-  pub node_fails : {d kind : ℕ} {t : List ℕ} → Goes d (does (node kind) (leaf l)) s c r t t
+  pub node_fails : {d kind : ℕ} {t : List ℕ} → Goes d (does (node kind) (leaf l)) s c q t t
   node_fails {d} {kind} {t} =
-      scan_failed ends (room going stands placed) fails
-      (λ p q. subst (λ (k : ℕ). Goes d (does (node kind) (leaf l)) s c k t t) (sym q) (short_of going stands placed (node_still kind (more 0) tt (leaf_still (more 0) (λ t. refl) p))))
-      (λ p q. subst (λ (k : ℕ). Goes d (does (node kind) (leaf l)) s c k t t) (sym q) (refuses going stands placed (node_still kind refused tt (leaf_still refused (λ t. refl) p))))
+      scan_failed ends (room going stands) fails
+      (λ p e. subst (λ (k : IResult). Goes d (does (node kind) (leaf l)) s c k t t) (sym (back ∙ ap Err e)) (short_of going stands (node_still kind (more 0) tt (leaf_still (more 0) (λ t. refl) p))))
+      (λ p e. subst (λ (k : IResult). Goes d (does (node kind) (leaf l)) s c k t t) (sym (back ∙ ap Err e)) (refuses going stands (node_still kind refused tt (leaf_still refused (λ t. refl) p))))
 
 -- runs ------------------------------------------------------------------------------------------------------------------------
 
@@ -137,13 +141,13 @@ unfolding leaf_at leaf_move first_state
 run1_is class s at = run1_scanned class at (drop at s)
 
 -- so the end of a run that may be empty serves both
-pub run1_ends : {class : Class} {s : List ℕ} {at r : ℕ} → Ends (take_while class) s at r → first_failure ≤ r → Room s at → Ends (take_while1 class) s at r
+pub run1_ends : {class : Class} {s : List ℕ} {at : ℕ} {r : Result ℕ Failure} {f : Failure} → Ends (take_while class) s at r → r ≡ Err f → Room s at → Ends (take_while1 class) s at r
 run1_ends {class} {s} {at} ends fails h =
     scan_failed ends h fails
-    (λ p q. record { is = q ∙ sym (ap end_of (run1_is class s at ∙ ap (past_first at) p)) })
-    (λ p q. record { is = q ∙ sym (ap end_of (run1_is class s at ∙ ap (past_first at) p)) })
+    (λ p e. record { is = fails ∙ ap Err e ∙ sym (ap end_of (run1_is class s at ∙ ap (past_first at) p)) })
+    (λ p e. record { is = fails ∙ ap Err e ∙ sym (ap end_of (run1_is class s at ∙ ap (past_first at) p)) })
 
-module _ {class : Class} {s : List ℕ} {at e : ℕ} (ends : Ends (take_while class) s at e) (h : Room s at) (less : e < first_failure) where
+module _ {class : Class} {s : List ℕ} {at e : ℕ} {r : Result ℕ Failure} (ends : Ends (take_while class) s at r) (h : Room s at) (less : r ≡ Ok e) where
   pub run0_still : (d : ℕ) → Still d (leaf (take_while class)) s at (took e none)
   unfolding leaf_nodes
   run0_still d = scan_took ends h less (λ v p l m. leaf_still (took e none) (λ t. refl) p)
@@ -163,49 +167,49 @@ module _ {class : Class} {s : List ℕ} {at e : ℕ} (ends : Ends (take_while cl
   run_inside = scan_took ends h less (λ v p l m. m)
 
 -- their readers
-module _ {class : Class} {s : List ℕ} {c at e : ℕ} (going : c < first_failure) (stands : Stands 0 s c) (placed : Placed c at) (ends : Ends (take_while class) s at e) where
-  pub run1_skims_fails : first_failure ≤ e → Skims (leaf (take_while1 class)) s c e
-  run1_skims_fails fails = leaf_skims_fails going stands placed (run1_ends ends fails (room going stands placed)) fails
+module _ {class : Class} {s : List ℕ} {c : IResult} {at : Cursor} {r : Result ℕ Failure} (going : c ≡ Ok at) (stands : Stands 0 s c) (ends : Ends (take_while class) s at.place r) where
+  pub run1_skims_fails : {q : IResult} {f : Failure} → r ≡ Err f → q ≡ Err f → Skims (leaf (take_while1 class)) s c q
+  run1_skims_fails fails back = leaf_skims_fails going stands (run1_ends ends fails (room going stands)) fails back
 
-  pub run1_node_fails : {d kind : ℕ} {t : List ℕ} → first_failure ≤ e → Goes d (does (node kind) (leaf (take_while1 class))) s c e t t
-  run1_node_fails fails = node_fails going stands placed (run1_ends ends fails (room going stands placed)) fails
+  pub run1_node_fails : {q : IResult} {f : Failure} {d kind : ℕ} {t : List ℕ} → r ≡ Err f → q ≡ Err f → Goes d (does (node kind) (leaf (take_while1 class))) s c q t t
+  run1_node_fails fails back = node_fails going stands (run1_ends ends fails (room going stands)) fails back
 
-  module _ (less : e < first_failure) where
-    pub run0_skims : {q : ℕ} → Moved c e q → Skims (leaf (take_while class)) s c q
-    run0_skims m = let h = room going stands placed in
-        skims_moves going stands placed (run0_still ends h less 0) (run_forward ends h less) (run_inside ends h less) m
+  module _ {e : ℕ} (less : r ≡ Ok e) where
+    pub run0_skims : {q : Cursor} → Moved at e q → Skims (leaf (take_while class)) s c (Ok q)
+    run0_skims m = let h = room going stands in
+        skims_moves going stands (run0_still ends h less 0) (run_forward ends h less) (run_inside ends h less) m
 
-    pub run1_skims : {q : ℕ} → (e ≡ at → ⊥) → Moved c e q → Skims (leaf (take_while1 class)) s c q
-    run1_skims n m = let h = room going stands placed in
-        skims_moves going stands placed (run1_still ends h less 0 n) (run_forward ends h less) (run_inside ends h less) m
+    pub run1_skims : {q : Cursor} → (e ≡ at.place → ⊥) → Moved at e q → Skims (leaf (take_while1 class)) s c (Ok q)
+    run1_skims n m = let h = room going stands in
+        skims_moves going stands (run1_still ends h less 0 n) (run_forward ends h less) (run_inside ends h less) m
 
-    pub run1_skims_none : e ≡ at → Skims (leaf (take_while1 class)) s c refusal
-    run1_skims_none n = skim (λ t. refuses going stands placed (run1_none ends (room going stands placed) less 0 n))
+    pub run1_skims_none : e ≡ at.place → Skims (leaf (take_while1 class)) s c (Err failure.Refused)
+    run1_skims_none n = skim (λ t. refuses going stands (run1_none ends (room going stands) less 0 n))
 
-    pub run1_node : {d kind q : ℕ} {t t' : List ℕ} → (e ≡ at → ⊥) → Leafed kind at e e c q t t' → Goes d (does (node kind) (leaf (take_while1 class))) s c q t t'
-    run1_node {d} {kind} n w = let h = room going stands placed in
-        leaves going stands placed (node_lays kind (run1_still ends h less d n)) (omega (arith, n, run_forward ends h less)) (run_inside ends h less) w
+    pub run1_node : {d kind : ℕ} {q : Cursor} {t t' : List ℕ} → (e ≡ at.place → ⊥) → Leafed kind at.place e e at q t t' → Goes d (does (node kind) (leaf (take_while1 class))) s c (Ok q) t t'
+    run1_node {d} {kind} n w = let h = room going stands in
+        leaves going stands (node_lays kind (run1_still ends h less d n)) (omega (arith, n, run_forward ends h less)) (run_inside ends h less) w
 
-    pub run1_node_none : {d kind : ℕ} {t : List ℕ} → e ≡ at → Goes d (does (node kind) (leaf (take_while1 class))) s c refusal t t
-    run1_node_none {d} {kind} n = refuses going stands placed (node_still kind refused tt (run1_none ends (room going stands placed) less d n))
+    pub run1_node_none : {d kind : ℕ} {t : List ℕ} → e ≡ at.place → Goes d (does (node kind) (leaf (take_while1 class))) s c (Err failure.Refused) t t
+    run1_node_none {d} {kind} n = refuses going stands (node_still kind refused tt (run1_none ends (room going stands) less d n))
 
     pub run_few : e ≤ 16777216
-    run_few = omega (arith, run_inside ends (room going stands placed) less, stands.small)
+    run_few = omega (arith, run_inside ends (room going stands) less, stands.small)
 
     pub run_word : e < 4294967296
     run_word = omega (arith, run_few)
 
 -- text may be empty: a spare pays for its node
-module _ {class : Class} {s : List ℕ} {c at e : ℕ} (going : c < first_failure) (stands : Stands 1 s c) (placed : Placed c at) (ends : Ends (take_while class) s at e) where
-  pub run0_node_fails : {d kind : ℕ} {t : List ℕ} → first_failure ≤ e → Goes d (does (node kind) (leaf (take_while class))) s c e t t
-  run0_node_fails fails = node_fails going (spares_none stands) placed ends fails
+module _ {class : Class} {s : List ℕ} {c : IResult} {at : Cursor} {r : Result ℕ Failure} (going : c ≡ Ok at) (stands : Stands 1 s c) (ends : Ends (take_while class) s at.place r) where
+  pub run0_node_fails : {q : IResult} {f : Failure} {d kind : ℕ} {t : List ℕ} → r ≡ Err f → q ≡ Err f → Goes d (does (node kind) (leaf (take_while class))) s c q t t
+  run0_node_fails fails back = node_fails going (spares_none stands) ends fails back
 
-  pub run0_node : {d kind q : ℕ} {t t' : List ℕ} → e < first_failure → Leafed kind at e e c q t t' → Goes d (does (node kind) (leaf (take_while class))) s c q t t'
-  run0_node {d} {kind} less w = let h = room going (spares_none stands) placed in
-      leaves_spare going stands placed (node_lays kind (run0_still ends h less d)) (run_forward ends h less) (run_inside ends h less) w
+  pub run0_node : {e d kind : ℕ} {q : Cursor} {t t' : List ℕ} → r ≡ Ok e → Leafed kind at.place e e at q t t' → Goes d (does (node kind) (leaf (take_while class))) s c (Ok q) t t'
+  run0_node {d = d} {kind = kind} less w = let h = room going (spares_none stands) in
+      leaves_spare going stands (node_lays kind (run0_still ends h less d)) (run_forward ends h less) (run_inside ends h less) w
 
-  pub run0_few : e < first_failure → e ≤ 16777216
-  run0_few less = omega (arith, run_inside ends (room going (spares_none stands) placed) less, stands.small)
+  pub run0_few : {e : ℕ} → r ≡ Ok e → e ≤ 16777216
+  run0_few less = omega (arith, run_inside ends (room going (spares_none stands)) less, stands.small)
 
-  pub run0_word : e < first_failure → e < 4294967296
+  pub run0_word : {e : ℕ} → r ≡ Ok e → e < 4294967296
   run0_word less = omega (arith, run0_few less)

@@ -7,3 +7,4 @@ pub mod Quoting
 pub mod Headers
 pub mod Dispatch
 pub mod Search
+pub mod Lists

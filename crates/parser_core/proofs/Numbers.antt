@@ -1,9 +1,8 @@
 -- Runs of digits: the loops over them, and what their answers say of the leaf.
 use Prim.Native.Char.{code}
-use Prim.Native.Nat.{ℕ, ◌+◌, ◌-◌, ◌*◌, ◌/◌, ◌%◌, ◌≤◌, ◌<◌}
+use Rattle.std.proofs.Common.{Option, Some, None, Result, Ok, Err, ℕ, ◌+◌, ◌-◌, ◌*◌, ◌/◌, ◌%◌, ◌≤◌, ◌<◌}
 use mathlib.Core.Path.{◌≡◌, refl, sym, ap, subst, ◌∙◌}
 use mathlib.Core.Bool.{Bool, true, false}
-use mathlib.Core.Logic.{◌⊎◌, inl, inr, ⊎_elim}
 use mathlib.Core.List.{List}
 use native.Mathlib.Omega.{arith}
 use lib.ListN.{length, drop, get_or}
@@ -21,15 +20,14 @@ use Rattle.grammar.specs.Core.{number, number_64}
 use Rattle.grammar.specs.Reading.{length_limit}
 use Rattle.grammar.proofs.Tests.{digit_low, digit_high}
 use Rattle.grammar.proofs.Scans.{Scans, scans_ended, scans_short, scans_failed, Moves, goes_on, ends_before, fails, scan_ind}
-use Rattle.table.specs.Cursor.{first_failure, refusal}
-use Rattle.table.specs.Promise.{Room, Stands, Placed, Goes, Leafed}
-use Rattle.table.proofs.Going.{short_of, refuses, leaf_still, leaf_lays}
-use Rattle.table.proofs.Bounds.{room, item, noded}
-use Rattle.parser_core.specs.declared.Value.{Value}
-use Rattle.parser_core.specs.declared.Value.TheVariants.{Fits, Large}
-use Rattle.parser_core.specs.declared.Numeral.{Numeral}
-use Rattle.parser_core.specs.declared.Numeral.TheVariants as numeral
-use Rattle.parser_core.specs.Scanned.{Overruns, number_of, value_of, valued_digits, as_digits, Counts, Counts64}
+use Rattle.table.specs.declared.Cursor.{Cursor}
+use Rattle.table.specs.declared.Failure.{Failure}
+use Rattle.table.specs.declared.Failure.TheVariants as failure
+use Rattle.table.specs.Cursor.{IResult}
+use Rattle.table.specs.Promise.{Room, Stands, Goes, Leafed}
+use Rattle.table.proofs.Going.{short_of, refuses, leaves, leaf_still, leaf_lays}
+use Rattle.table.proofs.Bounds.{room}
+use Rattle.parser_core.specs.Scanned.{Overruns, value_of, number_of, Counts}
 use Rattle.parser_core.proofs.Scanning.{Scanning, scanning_starts, scanning_on, scanning_short, scanning_ends_before, scanning_fails}
 
 -- a digit ------------------------------------------------------------------------------------------------------------------
@@ -46,59 +44,11 @@ module _ (b : ℕ) {t : Bool} (q : t ≡ true) (p : t ≡ digit b) where
   digit_most = digit_high b is_digit
 
   -- and its value
-  pub digit_value : {largest : ℕ} → 9 ≤ largest → b - code "0" ≤ largest
-  digit_value h = let low = digit_least in let high = digit_most in omega arith
-
   pub digit_word : val.Fits w64 (b - code "0")
   digit_word = record { fits = let low = digit_least in let high = digit_most in omega arith }
 
-  -- behind others of a value that is not too large
-  pub digit_adds : (v : ℕ) → v ≤ largest_32 → val.Fits w64 (v * 10 + (b - code "0"))
-  digit_adds v l = record { fits = let low = digit_least in let high = digit_most in omega arith }
-
--- values, as long as they are not too large ----------------------------------------------------------------------------------
-
-value_fits : (largest v : ℕ) → v ≤ largest → Fits v ≡ value_of largest v
-value_fits largest v h = rw (le-leb v largest h)
-
-value_large : (largest v : ℕ) → largest < v → Large ≡ value_of largest v
-value_large largest v h = rw (lt-leb v largest h)
-
--- one more digit: the value was too large before
-pub digit_over : {largest : ℕ} {value : Value} {d : ℕ} → value ≡ Large → d ≤ largest
-    → (v : ℕ) → value ≡ value_of largest v → value ≡ value_of largest (v * 10 + d)
-digit_over {largest} {value} {d} p h v q = p ∙ value_large largest (v * 10 + d) (grows (leb v largest) refl)
-  where
-    grows : (t : Bool) → leb v largest ≡ t → largest < v * 10 + d
-    grows true e = absurd (let z : Fits v ≡ Large = value_fits largest v (leb-true v largest e) ∙ sym q ∙ p in
-        let y : ◌≡◌ {A = ℕ} 0 1 = cc in omega arith)
-    grows false e = let l = leb-false v largest e in omega arith
-
--- a value that fits is the one it is said to be
-fits_same : (largest : ℕ) {value : Value} {w : ℕ} → value ≡ Fits w → (v : ℕ) → value ≡ value_of largest v
-    → (v ≡ w) × (v ≤ largest)
-fits_same largest {value} {w} p v q = cases (leb v largest) refl
-  where
-    cases : (t : Bool) → leb v largest ≡ t → (v ≡ w) × (v ≤ largest)
-    cases true e = let l = leb-true v largest e in
-        let z : Fits v ≡ Fits w = value_fits largest v l ∙ sym q ∙ p in (cc, l)
-    cases false e = absurd (let z : Large ≡ Fits w = value_large largest v (leb-false v largest e) ∙ sym q ∙ p in
-        let y : ◌≡◌ {A = ℕ} 0 1 = cc in omega arith)
-
-module _ {largest : ℕ} {value : Value} {w d : ℕ} (p : value ≡ Fits w) (h : d ≤ largest) where
-  -- it is too large by this digit
-  pub digit_large : (largest - d) / 10 < w → (v : ℕ) → value ≡ value_of largest v → Large ≡ value_of largest (v * 10 + d)
-  digit_large l v q = let same = fits_same largest p v q in value_large largest (v * 10 + d) (omega arith)
-
-  -- it still fits
-  pub digit_fits : w ≤ (largest - d) / 10 → (v : ℕ) → value ≡ value_of largest v → Fits (w * 10 + d) ≡ value_of largest (v * 10 + d)
-  digit_fits l v q =
-      let same = fits_same largest p v q in
-      ap (λ (n : ℕ). Fits (n * 10 + d)) (sym same.0) ∙ value_fits largest (v * 10 + d) (omega arith)
-
--- digits whose value fits
-pub valued_fits : {value : Value} {v : ℕ} (next : ℕ) → value ≡ Fits v → numeral.Value next v ≡ valued_digits next value
-valued_fits next p = sym (ap (valued_digits next) p)
+  pub digit_small : {largest : ℕ} → 9 ≤ largest → b - code "0" ≤ largest
+  digit_small h = let low = digit_least in let high = digit_most in omega arith
 
 -- the digits up to a place ---------------------------------------------------------------------------------------------------
 
@@ -137,98 +87,69 @@ module _ {s : List ℕ} {at i sum : ℕ} (inv : Summing s at i sum) {t : Bool} (
       let m : digits_move 1 sum (get_or s i 0) ≡ end_before sum = rw e in
       scanning_ends_before inv.scanning h m
 
--- up to any largest value ------------------------------------------------------------------------------------------------------
+-- THE INVARIANT of `digits`: their value so far, which is not too large --------------------------------------------------------
 
--- THE INVARIANT of `digits`: of the digits' value the code holds what fits
-pub record Counting (largest : ℕ) (s : List ℕ) (at i : ℕ) (value : Value) : Type 0 where
-  pub sum : ℕ
-  pub held : value ≡ value_of largest sum
-  pub summing : Summing s at i sum
+pub record Counting (largest : ℕ) (s : List ℕ) (at i value : ℕ) : Type 0 where
+  pub summing : Summing s at i value
+  pub fits : value ≤ largest
 
-as_found : {largest : ℕ} {s : List ℕ} {at : ℕ} {x : Scanned} → scan digits_move 0 0 (drop at s) at ≡ x → Counts64 largest s at (as_digits largest x)
-as_found {largest} p = record { is = sym (ap (as_digits largest) p) }
+as_number : {largest : ℕ} {s : List ℕ} {at : ℕ} {r : Result (ℕ × ℕ) Failure} {x : Scanned} → scan digits_move 0 0 (drop at s) at ≡ x
+    → r ≡ number_of largest x → Counts largest s at r
+as_number {largest} p e = record { is = e ∙ sym (ap (number_of largest) p) }
 
 -- no byte at all
-pub counts_none : {largest : ℕ} {s : List ℕ} {at : ℕ} → Room s at → length s ≤ at → Counts64 largest s at numeral.Short
-counts_none room h = as_found (scanning_short (scanning_starts room.inside) h)
+pub counts_none : {largest : ℕ} {s : List ℕ} {at : ℕ} → Room s at → length s ≤ at → Counts largest s at (Err (failure.Unfinished 0))
+counts_none room h = as_number (scanning_short (scanning_starts room.inside) h) refl
 
 module _ {largest : ℕ} {s : List ℕ} {at : ℕ} {t : Bool} (h : at < length s) (p : t ≡ digit (get_or s at 0)) where
   -- a first byte that is no digit
-  pub counts_wrong : t ≡ false → Counts64 largest s at numeral.Wrong
-  counts_wrong q = as_found (sum_fails s at h p q)
+  pub counts_wrong : t ≡ false → Counts largest s at (Err failure.Refused)
+  counts_wrong q = as_number (sum_fails s at h p q) refl
 
   -- a first digit
-  pub counting_starts : t ≡ true → 9 ≤ largest → Counting largest s at (at + 1) (Fits (get_or s at 0 - code "0"))
-  counting_starts q l = record {
-    sum = get_or s at 0 - code "0";
-    held = value_fits largest (get_or s at 0 - code "0") (digit_value (get_or s at 0) q p l);
-    summing = sum_starts s at h p q;
-  }
+  pub counting_starts : t ≡ true → 9 ≤ largest → Counting largest s at (at + 1) (get_or s at 0 - code "0")
+  counting_starts q l = record { summing = sum_starts s at h p q; fits = digit_small (get_or s at 0) q p l }
 
-module _ {largest : ℕ} {s : List ℕ} {at i : ℕ} {value : Value} (inv : Counting largest s at i value) where
+-- one more digit fits, or not
+pub more_fits : {largest v m : ℕ} → Some m ≡ value_of largest v → (m ≡ v) × (v ≤ largest)
+more_fits {largest} {v} {m} p = cases (leb v largest) refl p
+  where
+    cases : (t : Bool) → leb v largest ≡ t → Some m ≡ branch t (λ u. Some v) (λ u. None) → (m ≡ v) × (v ≤ largest)
+    cases true e q = let z : ◌≡◌ {A = Option ℕ} (Some m) (Some v) = q in (cc, leb-true v largest e)
+    cases false e q = absurd (let z : ◌≡◌ {A = Option ℕ} (Some m) None = q in cc)
+
+more_large : {largest v : ℕ} → None ≡ value_of largest v → largest < v
+more_large {largest} {v} p = cases (leb v largest) refl p
+  where
+    cases : (t : Bool) → leb v largest ≡ t → None ≡ branch t (λ u. Some v) (λ u. None) → largest < v
+    cases true e q = absurd (let z : ◌≡◌ {A = Option ℕ} None (Some v) = q in cc)
+    cases false e q = leb-false v largest e
+
+module _ {largest : ℕ} {s : List ℕ} {at i value : ℕ} (inv : Counting largest s at i value) where
   -- the buffer ends
-  pub counts_short : length s ≤ i → Counts64 largest s at numeral.Short
-  counts_short h = as_found (scanning_short inv.summing.scanning h)
+  pub counts_short : length s ≤ i → Counts largest s at (Err (failure.Unfinished 0))
+  counts_short h = as_number (scanning_short inv.summing.scanning h) refl
 
-  -- one more digit
-  pub counting_on : {t : Bool} {value' : Value} → i < length s → t ≡ true → t ≡ digit (get_or s i 0)
-      → ((v : ℕ) → value ≡ value_of largest v → value' ≡ value_of largest (v * 10 + (get_or s i 0 - code "0")))
-      → Counting largest s at (i + 1) value'
-  counting_on h q p grown = record {
-    sum = inv.sum * 10 + (get_or s i 0 - code "0");
-    held = grown inv.sum inv.held;
-    summing = sum_on inv.summing h p q;
-  }
+  module _ {t : Bool} (h : i < length s) (p : t ≡ digit (get_or s i 0)) where
+    -- a byte that is none
+    pub counts_ends : t ≡ false → Counts largest s at (Ok (i, value))
+    counts_ends q = as_number (sum_ends inv.summing h p q) (rw (le-leb value largest inv.fits))
 
-  -- a byte that is none
-  pub counts_ends : {t : Bool} {d : Numeral} → i < length s → t ≡ false → t ≡ digit (get_or s i 0) → d ≡ valued_digits i value → Counts64 largest s at d
-  counts_ends h q p r = record { is = r ∙ ap (valued_digits i) inv.held ∙ sym (ap (as_digits largest) (sum_ends inv.summing h p q)) }
+    module _ {r : Option ℕ} (q : t ≡ true) (w : r ≡ value_of largest (value * 10 + (get_or s i 0 - code "0"))) where
+      -- one more digit
+      pub counting_on : {m : ℕ} → r ≡ Some m → Counting largest s at (i + 1) m
+      counting_on {m} e =
+          let x = more_fits (sym e ∙ w) in
+          record {
+            summing = subst (λ (v : ℕ). Summing s at (i + 1) v) (sym x.0) (sum_on inv.summing h p q);
+            fits = omega (arith, x.0, x.1);
+          }
 
--- up to 4294967295, in one number ------------------------------------------------------------------------------------------------
-
--- what is found, as the code's number
-as_number : {s : List ℕ} {at : ℕ} {x : Scanned} {d : ℕ} → scan digits_move 0 0 (drop at s) at ≡ x
-    → d ≡ number_of (leaf_found (digits largest_32) at x) → Counts s at d
-unfolding leaf_at leaf_move first_state
-as_number {s} {at} p q = record { is = q ∙ sym (ap (λ x. number_of (leaf_found (digits largest_32) at x)) p) }
-
--- no byte at all
-pub counts32_none : {s : List ℕ} {at : ℕ} → Room s at → length s ≤ at → Counts s at first_failure
-counts32_none room h = as_number (scanning_short (scanning_starts room.inside) h) refl
-
-module _ {s : List ℕ} {at : ℕ} {t : Bool} (h : at < length s) (p : t ≡ digit (get_or s at 0)) where
-  -- a first byte that is no digit
-  pub counts32_wrong : t ≡ false → Counts s at refusal
-  counts32_wrong q = as_number (sum_fails s at h p q) refl
-
-  -- a first digit
-  pub counting32_starts : t ≡ true → Summing s at (at + 1) (get_or s at 0 - code "0")
-  counting32_starts q = sum_starts s at h p q
-
-module _ {s : List ℕ} {at i v : ℕ} (inv : Summing s at i v) where
-  -- the buffer ends
-  pub counts32_short : length s ≤ i → Counts s at first_failure
-  counts32_short h = as_number (scanning_short inv.scanning h) refl
-
-  -- one more digit
-  pub counting32_on : {t : Bool} → i < length s → t ≡ true → t ≡ digit (get_or s i 0) → Summing s at (i + 1) (v * 10 + (get_or s i 0 - code "0"))
-  counting32_on h q p = sum_on inv h p q
-
-  -- the value is too large
-  pub counts32_over : {r : ℕ} → largest_32 < v → Overruns s i r → Counts s at r
-  unfolding leaf_at leaf_move first_state
-  counts32_over l x = record { is = x.is at v l ∙ ap (λ (z : Scanned). number_of (leaf_found (digits largest_32) at z)) inv.scanning.same }
-
-  module _ {t : Bool} (h : i < length s) (q : t ≡ false) (p : t ≡ digit (get_or s i 0)) where
-    -- a byte that is none: behind a value that is too large
-    pub counts32_large : largest_32 < v → Counts s at refusal
-    unfolding leaf_fits
-    counts32_large l = as_number (sum_ends inv h p q) (rw (lt-leb v largest_32 l))
-
-    -- and behind one that is not
-    pub counts32_ends : {d : ℕ} → v ≤ largest_32 → d ≡ i * two_32 + v → Counts s at d
-    unfolding leaf_fits leaf_nodes
-    counts32_ends l r = as_number (sum_ends inv h p q) (rw (le-leb v largest_32 l) (omega arith))
+      -- the value is too large
+      pub counts_over : {f : Failure} → r ≡ None → Overruns s (i + 1) f → Counts largest s at (Err f)
+      counts_over e over =
+          let x = sum_on inv.summing h p q in
+          record { is = sym (ap (number_of largest) (sym x.scanning.same) ∙ over.is largest _ (more_large (sym e ∙ w))) }
 
 -- the rest of a number that is too large -------------------------------------------------------------------------------------------
 
@@ -250,8 +171,8 @@ over_starts room = record {
 }
 
 module _ {s : List ℕ} {at i : ℕ} (inv : Overrunning s at i) where
-  pub over_short : length s ≤ i → Overruns s at first_failure
-  over_short h = record { is = λ start value l. sym (ap (λ (z : Scanned). number_of (leaf_found (digits largest_32) start z)) (scanning_short (inv.from value).scanning h)) }
+  pub over_short : length s ≤ i → Overruns s at (failure.Unfinished 0)
+  over_short h = record { is = λ largest value l. ap (number_of largest) (scanning_short (inv.from value).scanning h) }
 
   module _ {t : Bool} (h : i < length s) where
     pub over_on : t ≡ true → t ≡ digit (get_or s i 0) → Overrunning s at (i + 1)
@@ -264,15 +185,14 @@ module _ {s : List ℕ} {at i : ℕ} (inv : Overrunning s at i) where
       inside = omega arith;
     }
 
-    pub over_ends : t ≡ false → t ≡ digit (get_or s i 0) → Overruns s at refusal
-    unfolding leaf_fits
+    pub over_ends : t ≡ false → t ≡ digit (get_or s i 0) → Overruns s at failure.Refused
     over_ends q p = record {
-      is = λ start value l.
+      is = λ largest value l.
           let x = inv.from value in
           let e : digit (get_or s i 0) ≡ false = sym p ∙ q in
           let m : digits_move 1 x.sum (get_or s i 0) ≡ end_before x.sum = rw e in
-          let large : largest_32 < x.sum = omega (arith, x.grown) in
-          sym (ap (λ (z : Scanned). number_of (leaf_found (digits largest_32) start z)) (scanning_ends_before x.scanning h m) ∙ rw (lt-leb x.sum largest_32 large));
+          let large : largest < x.sum = omega (arith, x.grown) in
+          ap (number_of largest) (scanning_ends_before x.scanning h m) ∙ rw (lt-leb x.sum largest large);
     }
 
 -- what the answers say of the leaf -----------------------------------------------------------------------------------------------
@@ -301,166 +221,97 @@ module _ (s : List ℕ) (at : ℕ) where
   digits_past : at ≤ length s → Scans (λ e v. Past s at e) ((state value : ℕ) × Between (length s) state value) (scan digits_move 0 0 (drop at s) at)
   digits_past l = scan_ind digits_move s Between (λ e v. Past s at e) past_turn at 0 0 l (omega arith, λ (e : eqb 0 0 ≡ false). absurd (let y : ◌≡◌ {A = ℕ} 0 1 = cc in omega arith))
 
--- of `digits`
-pub data NumeralCase (largest : ℕ) (s : List ℕ) (at : ℕ) : Numeral → Type 0 where
-  case_value : {e v : ℕ} → leaf_at (digits largest) s at ≡ took e (node_of kind_number (v % two_32) (v / two_32)) → Past s at e
-      → NumeralCase largest s at (numeral.Value e v)
-  case_short : leaf_at (digits largest) s at ≡ more 0 → NumeralCase largest s at numeral.Short
-  case_wrong : leaf_at (digits largest) s at ≡ refused → NumeralCase largest s at numeral.Wrong
+-- what was counted: a number, the buffer's end, or neither
+pub data NumberCase (largest : ℕ) (s : List ℕ) (at : ℕ) : Result (ℕ × ℕ) Failure → Type 0 where
+  number_value : {e v : ℕ} → leaf_at (digits largest) s at ≡ took e (node_of kind_number (v % two_32) (v / two_32)) → Past s at e → v ≤ largest
+      → NumberCase largest s at (Ok (e, v))
+  number_short : leaf_at (digits largest) s at ≡ more 0 → NumberCase largest s at (Err (failure.Unfinished 0))
+  number_wrong : leaf_at (digits largest) s at ≡ refused → NumberCase largest s at (Err failure.Refused)
 
-pub numeral_case : {largest : ℕ} {s : List ℕ} {at : ℕ} {r : Numeral} → Room s at → Counts64 largest s at r → NumeralCase largest s at r
+pub number_case : {largest : ℕ} {s : List ℕ} {at : ℕ} {r : Result (ℕ × ℕ) Failure} → Room s at → Counts largest s at r → NumberCase largest s at r
 unfolding leaf_at leaf_move first_state leaf_fits leaf_nodes
-numeral_case {largest} {s} {at} {r} room did =
-    subst (NumeralCase largest s at) (sym did.is) (cases refl (digits_past s at room.inside))
+number_case {largest} {s} {at} {r} room did = subst (NumberCase largest s at) (sym did.is) (split refl (digits_past s at room.inside))
   where
+    fits : (e v : ℕ) → Past s at e → (t : Bool) → leb v largest ≡ t
+        → leaf_at (digits largest) s at ≡ branch t (λ u. took e (node_of kind_number (v % two_32) (v / two_32))) (λ u. refused)
+        → NumberCase largest s at (branch t (λ u. Ok (e, v)) (λ u. Err failure.Refused))
+    fits e v k true h p = number_value p k (leb-true v largest h)
+    fits e v k false h p = number_wrong p
+
     found : {x : Scanned} → scan digits_move 0 0 (drop at s) at ≡ x → leaf_at (digits largest) s at ≡ leaf_found (digits largest) at x
     found p = ap (leaf_found (digits largest) at) p
 
-    fits : (e v : ℕ) → Past s at e → (t : Bool)
-        → leaf_at (digits largest) s at ≡ branch t (λ u. took e (node_of kind_number (v % two_32) (v / two_32))) (λ u. refused)
-        → NumeralCase largest s at (valued_digits e (branch t (λ u. Fits v) (λ u. Large)))
-    fits e v k true p = case_value p k
-    fits e v k false p = case_wrong p
+    split : {x : Scanned} {S : Type 0} → scan digits_move 0 0 (drop at s) at ≡ x → Scans (λ e v. Past s at e) S x
+        → NumberCase largest s at (number_of largest (scan digits_move 0 0 (drop at s) at))
+    split q (scans_ended {end} {value} k) = rw q (fits end value k (leb value largest) refl (found q))
+    split q (scans_short k) = rw q (number_short (found q))
+    split q scans_failed = rw q (number_wrong (found q))
 
-    cases : {x : Scanned} {S : Type 0} → scan digits_move 0 0 (drop at s) at ≡ x → Scans (λ e v. Past s at e) S x
-        → NumeralCase largest s at (as_digits largest (scan digits_move 0 0 (drop at s) at))
-    cases p k = rw p (split (found p) k)
-      where
-        split : {x : Scanned} {S : Type 0} → leaf_at (digits largest) s at ≡ leaf_found (digits largest) at x → Scans (λ e v. Past s at e) S x
-            → NumeralCase largest s at (as_digits largest x)
-        split q (scans_ended {end} {value} k) = fits end value k (leb value largest) q
-        split q (scans_short k) = case_short q
-        split q scans_failed = case_wrong q
+module _ {largest : ℕ} {s : List ℕ} {at : ℕ} {r : Result (ℕ × ℕ) Failure} (room : Room s at) (did : Counts largest s at r) where
+  -- what is known of a number that was counted
+  pub record Numbered (e v : ℕ) : Type 0 where
+    pub took : leaf_at (digits largest) s at ≡ took e (node_of kind_number (v % two_32) (v / two_32))
+    pub past : Past s at e
+    pub fits : v ≤ largest
 
-module _ {largest : ℕ} {s : List ℕ} {at : ℕ} where
-  value_case : {e v : ℕ} → NumeralCase largest s at (numeral.Value e v)
-      → (leaf_at (digits largest) s at ≡ took e (node_of kind_number (v % two_32) (v / two_32))) × Past s at e
-  value_case (case_value p k) = (p, k)
-
-  short_case : NumeralCase largest s at numeral.Short → leaf_at (digits largest) s at ≡ more 0
-  short_case (case_short p) = p
-
-  wrong_case : NumeralCase largest s at numeral.Wrong → leaf_at (digits largest) s at ≡ refused
-  wrong_case (case_wrong p) = p
-
-  module _ {r : Numeral} (room : Room s at) (did : Counts64 largest s at r) where
-    pub numeral_took : {next value : ℕ} → r ≡ numeral.Value next value
-        → leaf_at (digits largest) s at ≡ took next (node_of kind_number (value % two_32) (value / two_32))
-    numeral_took p = (value_case (subst (NumeralCase largest s at) p (numeral_case room did))).0
-
-    pub numeral_past : {next value : ℕ} → r ≡ numeral.Value next value → Past s at next
-    numeral_past p = (value_case (subst (NumeralCase largest s at) p (numeral_case room did))).1
-
-    pub numeral_short : r ≡ numeral.Short → leaf_at (digits largest) s at ≡ more 0
-    numeral_short p = short_case (subst (NumeralCase largest s at) p (numeral_case room did))
-
-    pub numeral_wrong : r ≡ numeral.Wrong → leaf_at (digits largest) s at ≡ refused
-    numeral_wrong p = wrong_case (subst (NumeralCase largest s at) p (numeral_case room did))
-
--- of `digits_32`
-pub data NumberCase (s : List ℕ) (at d : ℕ) : Type 0 where
-  number_value : (e v : ℕ) → d ≡ e * two_32 + v → v < two_32
-      → leaf_at (digits largest_32) s at ≡ took e (node_of kind_number v 0) → Past s at e → NumberCase s at d
-  number_short : d ≡ first_failure → leaf_at (digits largest_32) s at ≡ more 0 → NumberCase s at d
-  number_wrong : d ≡ refusal → leaf_at (digits largest_32) s at ≡ refused → NumberCase s at d
-
-pub number_case : {s : List ℕ} {at d : ℕ} → Room s at → Counts s at d → NumberCase s at d
-unfolding leaf_at leaf_move first_state leaf_fits leaf_nodes
-number_case {s} {at} {d} room did = split did.is refl (digits_past s at room.inside)
-  where
-    fits : (e v : ℕ) → Past s at e → (t : Bool) → leb v largest_32 ≡ t
-        → leaf_at (digits largest_32) s at ≡ branch t (λ u. took e (node_of kind_number (v % two_32) (v / two_32))) (λ u. refused)
-        → NumberCase s at d
-    fits e v k true h p =
-        let l = leb-true v largest_32 h in
-        let low : v % two_32 ≡ v = omega arith in
-        let high : v / two_32 ≡ 0 = omega arith in
-        let q : leaf_at (digits largest_32) s at ≡ took e (node_of kind_number v 0) = p ∙ cc in
-        number_value e v (did.is ∙ ap number_of q) (omega arith) q k
-    fits e v k false h p = number_wrong (did.is ∙ ap number_of p) p
-
-    split : {x : Scanned} {S : Type 0} → d ≡ number_of (leaf_at (digits largest_32) s at) → scan digits_move 0 0 (drop at s) at ≡ x
-        → Scans (λ e v. Past s at e) S x → NumberCase s at d
-    split is q (scans_ended {end} {value} k) = fits end value k (leb value largest_32) refl (ap (leaf_found (digits largest_32) at) q)
-    split is q (scans_short k) =
-        let p : leaf_at (digits largest_32) s at ≡ more 0 = ap (leaf_found (digits largest_32) at) q in number_short (is ∙ ap number_of p) p
-    split is q scans_failed =
-        let p : leaf_at (digits largest_32) s at ≡ refused = ap (leaf_found (digits largest_32) at) q in number_wrong (is ∙ ap number_of p) p
-
-module _ {s : List ℕ} {at d : ℕ} (room : Room s at) (did : Counts s at d) where
-  -- a place and a value
-  pub number_took : d < first_failure → leaf_at (digits largest_32) s at ≡ took (d / two_32) (node_of kind_number (d % two_32) 0)
-  number_took l = cases (number_case room did)
+  pub numbered : {p : ℕ × ℕ} → r ≡ Ok p → Numbered p.0 p.1
+  numbered {p} e = cases (number_case room did) e
     where
-      cases : NumberCase s at d → leaf_at (digits largest_32) s at ≡ took (d / two_32) (node_of kind_number (d % two_32) 0)
-      cases (number_value e v is m p k) =
-          let place : d / two_32 ≡ e = omega arith in
-          let value : d % two_32 ≡ v = omega arith in p ∙ cc
-      cases (number_short is p) = absurd (omega arith)
-      cases (number_wrong is p) = absurd (omega arith)
+      cases : {x : Result (ℕ × ℕ) Failure} → NumberCase largest s at x → x ≡ Ok p → Numbered p.0 p.1
+      cases (number_value {e} {v} q k l) z =
+          let y : ◌≡◌ {A = Result (ℕ × ℕ) Failure} (Ok (e, v)) (Ok p) = z in
+          let w : ◌≡◌ {A = ℕ × ℕ} (e, v) p = cc in
+          subst (λ (i : ℕ × ℕ). Numbered i.0 i.1) w (record { took = q; past = k; fits = l })
+      cases (number_short q) z = absurd (let y : ◌≡◌ {A = Result (ℕ × ℕ) Failure} (Err (failure.Unfinished 0)) (Ok p) = z in cc)
+      cases (number_wrong q) z = absurd (let y : ◌≡◌ {A = Result (ℕ × ℕ) Failure} (Err failure.Refused) (Ok p) = z in cc)
 
-  pub number_past : d < first_failure → Past s at (d / two_32)
-  number_past l = cases (number_case room did)
+  -- and of none
+  pub uncounted : {A : Type 0} {f : Failure} → r ≡ Err f → (leaf_at (digits largest) s at ≡ more 0 → f ≡ failure.Unfinished 0 → A)
+      → (leaf_at (digits largest) s at ≡ refused → f ≡ failure.Refused → A) → A
+  uncounted {A} {f} e a b = cases (number_case room did) e
     where
-      cases : NumberCase s at d → Past s at (d / two_32)
-      cases (number_value e v is m p k) = let place : e ≡ d / two_32 = omega arith in subst (Past s at) place k
-      cases (number_short is p) = absurd (omega arith)
-      cases (number_wrong is p) = absurd (omega arith)
-
-  -- a failure
-  pub number_fails : first_failure ≤ d
-      → ((d ≡ first_failure) × (leaf_at (digits largest_32) s at ≡ more 0)) ⊎ ((d ≡ refusal) × (leaf_at (digits largest_32) s at ≡ refused))
-  number_fails l = cases (number_case room did)
-    where
-      cases : NumberCase s at d
-          → ((d ≡ first_failure) × (leaf_at (digits largest_32) s at ≡ more 0)) ⊎ ((d ≡ refusal) × (leaf_at (digits largest_32) s at ≡ refused))
-      cases (number_value e v is m p k) = absurd (let high = k.high in let small = room.small in omega arith)
-      cases (number_short is p) = inl (is, p)
-      cases (number_wrong is p) = inr (is, p)
+      cases : {x : Result (ℕ × ℕ) Failure} → NumberCase largest s at x → x ≡ Err f → A
+      cases (number_value {e} {v} q k l) z = absurd (let y : ◌≡◌ {A = Result (ℕ × ℕ) Failure} (Ok (e, v)) (Err f) = z in cc)
+      cases (number_short q) z = a q (let y : ◌≡◌ {A = Result (ℕ × ℕ) Failure} (Err (failure.Unfinished 0)) (Err f) = z in cc)
+      cases (number_wrong q) z = b q (let y : ◌≡◌ {A = Result (ℕ × ℕ) Failure} (Err failure.Refused) (Err f) = z in cc)
 
 -- so of their readers ------------------------------------------------------------------------------------------------------------
 
-module _ {s : List ℕ} {c at : ℕ} (going : c < first_failure) (stands : Stands 0 s c) (placed : Placed c at) where
-  module _ {largest : ℕ} where
-    digits_short : {t : List ℕ} → leaf_at (digits largest) s at ≡ more 0 → Goes 0 (leaf (digits largest)) s c first_failure t t
-    digits_short p = short_of going stands placed (leaf_still (more 0) (λ u. refl) p)
+module _ {largest : ℕ} {s : List ℕ} {c : IResult} {at : Cursor} {r : Result (ℕ × ℕ) Failure} (going : c ≡ Ok at) (stands : Stands 0 s c) (did : Counts largest s at.place r) where
+  digits_fail : {q : IResult} {f : Failure} {t : List ℕ} → r ≡ Err f → q ≡ Err f → Goes 0 (leaf (digits largest)) s c q t t
+  digits_fail {t = t} e back =
+      uncounted (room going stands) did e
+      (λ p w. subst (λ (k : IResult). Goes 0 (leaf (digits largest)) s c k t t) (sym (back ∙ ap Err w)) (short_of going stands (leaf_still (more 0) (λ u. refl) p)))
+      (λ p w. subst (λ (k : IResult). Goes 0 (leaf (digits largest)) s c k t t) (sym (back ∙ ap Err w)) (refuses going stands (leaf_still refused (λ u. refl) p)))
 
-    digits_wrong : {t : List ℕ} → leaf_at (digits largest) s at ≡ refused → Goes 0 (leaf (digits largest)) s c refusal t t
-    digits_wrong p = refuses going stands placed (leaf_still refused (λ u. refl) p)
+  digits_lay : {e v : ℕ} {q : Cursor} {t t' : List ℕ} → r ≡ Ok (e, v) → Leafed kind_number (v % two_32) (v / two_32) e at q t t' → Goes 0 (leaf (digits largest)) s c (Ok q) t t'
+  digits_lay e w =
+      let x = numbered (room going stands) did e in
+      leaves going stands (leaf_lays x.took) x.past.low (omega (arith, x.past.high)) w
 
-  module _ {d : ℕ} (did : Counts s at d) where
-    -- a number of 32 bits: a failure, or a node
-    pub number_stops : {t : List ℕ} → first_failure ≤ d → Goes 0 number s c d t t
-    unfolding number
-    number_stops {t} l =
-        ⊎_elim (λ w. subst (λ (q : ℕ). Goes 0 (leaf (digits largest_32)) s c q t t) (sym w.0) (digits_short w.1))
-        (λ w. subst (λ (q : ℕ). Goes 0 (leaf (digits largest_32)) s c q t t) (sym w.0) (digits_wrong w.1))
-        (number_fails (room going stands placed) did l)
+  pub digits_end : {e v : ℕ} → r ≡ Ok (e, v) → e ≤ length_limit
+  digits_end e = omega (arith, (numbered (room going stands) did e).past.high, stands.small)
 
-    pub number_ends : {next : ℕ} → d < first_failure → next ≡ d / two_32 → next ≤ length_limit
-    number_ends l p = let k = (number_past (room going stands placed) did l).high in let small = stands.small in omega arith
+module _ {s : List ℕ} {c : IResult} {at : Cursor} {r : Result (ℕ × ℕ) Failure} (going : c ≡ Ok at) (stands : Stands 0 s c) where
+  -- a number of 32 bits: a failure, or a node
+  pub number_stops : {q : IResult} {f : Failure} {t : List ℕ} → Counts largest_32 s at.place r → r ≡ Err f → q ≡ Err f → Goes 0 number s c q t t
+  unfolding number
+  number_stops did e back = digits_fail going stands did e back
 
-    pub number_done : {next value q : ℕ} {t t' : List ℕ} → d < first_failure → Leafed kind_number value 0 next c q t t'
-        → next ≡ d / two_32 → value ≡ d % two_32 → Goes 0 number s c q t t'
-    unfolding number
-    number_done l w e v =
-        let p = number_took (room going stands placed) did l in
-        noded going stands placed (unfold item in tt) (leaf_lays (p ∙ cc)) w
+  pub number_done : {e v : ℕ} {q : Cursor} {t t' : List ℕ} → Counts largest_32 s at.place r → r ≡ Ok (e, v) → Leafed kind_number v 0 e at q t t' → Goes 0 number s c (Ok q) t t'
+  unfolding number
+  number_done {e} {v} {q} {t} {t'} did p w =
+      let l = (numbered (room going stands) did p).fits in
+      let low : v ≡ v % two_32 = omega arith in
+      let high : 0 ≡ v / two_32 = omega arith in
+      digits_lay going stands did p (subst (λ (k : ℕ). Leafed kind_number k (v / two_32) e at q t t') low (subst (λ (k : ℕ). Leafed kind_number v k e at q t t') high w))
 
-  module _ {r : Numeral} (did : Counts64 largest_64 s at r) where
-    -- one of 64
-    pub number_64_short : {t : List ℕ} → r ≡ numeral.Short → Goes 0 number_64 s c first_failure t t
-    unfolding number_64
-    number_64_short p = digits_short (numeral_short (room going stands placed) did p)
+  -- one of 64
+  pub number_64_stops : {q : IResult} {f : Failure} {t : List ℕ} → Counts largest_64 s at.place r → r ≡ Err f → q ≡ Err f → Goes 0 number_64 s c q t t
+  unfolding number_64
+  number_64_stops did e back = digits_fail going stands did e back
 
-    pub number_64_wrong : {t : List ℕ} → r ≡ numeral.Wrong → Goes 0 number_64 s c refusal t t
-    unfolding number_64
-    number_64_wrong p = digits_wrong (numeral_wrong (room going stands placed) did p)
-
-    pub number_64_ends : {next value : ℕ} → r ≡ numeral.Value next value → next ≤ length_limit
-    number_64_ends p = let k = (numeral_past (room going stands placed) did p).high in let small = stands.small in omega arith
-
-    pub number_64_done : {next value q : ℕ} {t t' : List ℕ} → r ≡ numeral.Value next value
-        → Leafed kind_number (value % two_32) (value / two_32) next c q t t' → Goes 0 number_64 s c q t t'
-    unfolding number_64
-    number_64_done p w = noded going stands placed (unfold item in tt) (leaf_lays (numeral_took (room going stands placed) did p)) w
+  pub number_64_done : {e v : ℕ} {q : Cursor} {t t' : List ℕ} → Counts largest_64 s at.place r → r ≡ Ok (e, v) → Leafed kind_number (v % two_32) (v / two_32) e at q t t'
+      → Goes 0 number_64 s c (Ok q) t t'
+  unfolding number_64
+  number_64_done did e w = digits_lay going stands did e w

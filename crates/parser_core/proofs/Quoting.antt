@@ -1,24 +1,26 @@
 -- A quoted string, from its opening quote on: runs of text, and between two of them an escape.
 use Prim.Native.Char.{code}
-use Prim.Native.Nat.{ℕ, ◌+◌, ◌-◌, ◌≤◌, ◌<◌}
-use mathlib.Core.Path.{◌≡◌, sym, ap, subst, ◌∙◌}
+use Rattle.std.proofs.Common.{Result, Ok, Err, ℕ, ◌+◌, ◌-◌, ◌≤◌, ◌<◌}
+use mathlib.Core.Path.{◌≡◌, refl, sym, ap, subst, ◌∙◌}
 use mathlib.Core.Bool.{Bool, true, false}
 use mathlib.Core.List.{List}
 use native.Mathlib.Omega.{arith}
 use lib.Dec.{eqb}
 use lib.ListN.{length, drop, get_or}
-use borrow.Author.Rules.{rules}
+use Rattle.std.proofs.Common.{rules}
 use borrow.Author.Tests.{eq-eqb, ne_eqb}
 use Rattle.grammar.specs.Kinds.{kind_bytes}
 use Rattle.grammar.specs.Forest.{node_of}
 use Rattle.grammar.specs.Out.{took}
 use Rattle.grammar.specs.Scan.{text_char, quoted_special, on, end_after, fail, Scanned, ended, short, failed, scan, quotes_move, quotes, leaf_move, first_state, leaf_fits, leaf_nodes, leaf_found, leaf_at}
 use Rattle.grammar.specs.Core.{quoted}
-use Rattle.grammar.specs.Reading.{length_limit}
 use Rattle.grammar.proofs.Tests.{branch_ind}
 use Rattle.grammar.proofs.Scans.{Takes, scan_takes, scan_bounds, scans_at}
-use Rattle.table.specs.Cursor.{first_failure, refusal}
-use Rattle.table.specs.Promise.{Stands, Goes, Placed, Leafed}
+use Rattle.table.specs.declared.Cursor.{Cursor}
+use Rattle.table.specs.declared.Failure.{Failure}
+use Rattle.table.specs.declared.Failure.TheVariants as failure
+use Rattle.table.specs.Cursor.{IResult}
+use Rattle.table.specs.Promise.{Stands, Goes, Leafed}
 use Rattle.table.proofs.Going.{leaves, leaf_lays}
 use Rattle.table.proofs.Search.{reads}
 use Rattle.parser_core.specs.Scanned.{Ends, Opened, end_of}
@@ -70,7 +72,7 @@ module _ {s : List ℕ} {at i : ℕ} (inv : Quoting s at i) where
   quote_high = inv.scanning.high
 
   -- the buffer ends
-  pub quote_short : length s ≤ i → Ends quotes s at first_failure
+  pub quote_short : length s ≤ i → Ends quotes s at (Err (failure.Unfinished 0))
   quote_short h = quotes_end short (scanning_short inv.scanning h)
 
   module _ (h : i < length s) where
@@ -94,7 +96,7 @@ module _ {s : List ℕ} {at i : ℕ} (inv : Quoting s at i) where
       behind = scanning_on inv.scanning h (escapes (get_or s i 0) p)
 
       -- the buffer ends behind it
-      pub quote_cut : length s ≤ i + 1 → Ends quotes s at first_failure
+      pub quote_cut : length s ≤ i + 1 → Ends quotes s at (Err (failure.Unfinished 0))
       quote_cut l = quotes_end short (scanning_short behind l)
 
       module _ {t : Bool} (k : i + 1 < length s) (e : t ≡ quoted_special (get_or s (i + 1) 0)) where
@@ -112,33 +114,33 @@ module _ {s : List ℕ} {at i : ℕ} (inv : Quoting s at i) where
             record { here = h; closed = λ x. absurd (omega arith); wrong = λ n. scanning_fails behind k m }
 
 -- so the scan ends behind a quote
-pub quotes_value : {s : List ℕ} {at i : ℕ} → get_or s i 0 ≡ code "\"" → QuoteEnd s at i → Ends quotes s at (i + 1)
+pub quotes_value : {s : List ℕ} {at i : ℕ} → get_or s i 0 ≡ code "\"" → QuoteEnd s at i → Ends quotes s at (Ok (i + 1))
 unfolding leaf_fits
 quotes_value {i = i} p end = quotes_end (ended (i + 1) 0) (end.closed p)
 
 -- and else fails
-pub quotes_wrong : {s : List ℕ} {at i : ℕ} → (get_or s i 0 ≡ code "\"" → ⊥) → QuoteEnd s at i → Ends quotes s at refusal
+pub quotes_wrong : {s : List ℕ} {at i : ℕ} → (get_or s i 0 ≡ code "\"" → ⊥) → QuoteEnd s at i → Ends quotes s at (Err failure.Refused)
 quotes_wrong p end = quotes_end failed (end.wrong p)
 
 -- what a reader makes of a leaf's end -------------------------------------------------------------------------------------------
 
 -- what its end says
-module _ {s : List ℕ} {at r : ℕ} (opened : Opened s at) (ends : Ends quotes s at r) (l : r < first_failure) where
-  quotes_ended : (v : ℕ) × (scan_quoted s at ≡ ended r v)
+module _ {s : List ℕ} {at e : ℕ} {r : Result ℕ Failure} (opened : Opened s at) (ends : Ends quotes s at r) (l : r ≡ Ok e) where
+  quotes_ended : (v : ℕ) × (scan_quoted s at ≡ ended e v)
   unfolding leaf_at leaf_move first_state leaf_fits
-  quotes_ended = go (scan_quoted s at) ends.is
+  quotes_ended = go (scan_quoted s at) (sym ends.is ∙ l)
     where
-      go : (x : Scanned) → r ≡ end_of (leaf_found quotes at x) → (v : ℕ) × (x ≡ ended r v)
-      go (ended e v) p = (v, ap (λ (k : ℕ). ended k v) (sym p))
-      go short p = absurd (omega arith)
-      go failed p = absurd (omega arith)
+      go : (x : Scanned) → end_of (leaf_found quotes at x) ≡ Ok e → (v : ℕ) × (x ≡ ended e v)
+      go (ended i v) p = let z : ◌≡◌ {A = Result ℕ Failure} (Ok i) (Ok e) = p in let y : i ≡ e = cc in (v, ap (λ (k : ℕ). ended k v) y)
+      go short p = absurd (let z : ◌≡◌ {A = Result ℕ Failure} (Err (failure.Unfinished 0)) (Ok e) = p in cc)
+      go failed p = absurd (let z : ◌≡◌ {A = Result ℕ Failure} (Err failure.Refused) (Ok e) = p in cc)
 
-  pub quotes_took : leaf_at quotes s at ≡ took r (node_of kind_bytes (at + 1) (r - 1))
+  pub quotes_took : leaf_at quotes s at ≡ took e (node_of kind_bytes (at + 1) (e - 1))
   unfolding leaf_at leaf_move first_state leaf_fits leaf_nodes
   quotes_took = ap (leaf_found quotes at) quotes_ended.1
 
   -- it holds its two quotes
-  pub quotes_low : at + 1 < r
+  pub quotes_low : at + 1 < e
   quotes_low =
       let inv = (quote_opens opened).scanning in
       omega (arith, scans_at (scan_takes s (λ state value b. quotes_move state b) 1 0 takes (at + 1) inv.high) (inv.same ∙ quotes_ended.1))
@@ -148,32 +150,36 @@ module _ {s : List ℕ} {at r : ℕ} (opened : Opened s at) (ends : Ends quotes 
           branch_ind Takes (eqb b (code "\"")) _ _ (λ t. tt)
           (λ t. branch_ind Takes (eqb b (code "\\")) _ _ (λ t. tt) (λ t. branch_ind Takes (text_char b) _ _ (λ t. tt) (λ t. tt)))
 
-  pub quotes_some : 1 ≤ r
+  pub quotes_some : 1 ≤ e
   quotes_some = omega (arith, quotes_low)
 
-  pub quotes_high : r ≤ length s
+  pub quotes_high : e ≤ length s
   quotes_high = (scans_at (scan_bounds s at (omega (arith, opened.here)) (λ state value b. quotes_move state b) 0 0) quotes_ended.1).1
 
   -- so both ends of its content are small
-  pub quotes_word : {c : ℕ} → Stands 0 s c → r - 1 < 4294967296
+  pub quotes_word : {c : IResult} → Stands 0 s c → e - 1 < 4294967296
   quotes_word stands = omega (arith, quotes_high, stands.small)
 
-  pub quotes_limit : {c : ℕ} → Stands 0 s c → r ≤ length_limit
-  quotes_limit stands = omega (arith, quotes_high, stands.small)
+  pub quotes_start : {c : IResult} → Stands 0 s c → at + 1 < 4294967296
+  quotes_start stands = omega (arith, quotes_low, quotes_high, stands.small)
 
-module _ {s : List ℕ} {c at r : ℕ} (going : c < first_failure) (stands : Stands 0 s c) (placed : Placed c at) (ends : Ends quotes s at r) where
-  pub quoted_fails : {t : List ℕ} → first_failure ≤ r → Goes 0 quoted s c r t t
+module _ {s : List ℕ} {c : IResult} {at : Cursor} {r : Result ℕ Failure} (going : c ≡ Ok at) (stands : Stands 0 s c) (ends : Ends quotes s at.place r) where
+  pub quoted_fails : {q : IResult} {f : Failure} {t : List ℕ} → r ≡ Err f → q ≡ Err f → Goes 0 quoted s c q t t
   unfolding quoted
-  quoted_fails h = leaf_fails going stands placed ends h
+  quoted_fails h back = leaf_fails going stands ends h back
 
-  pub quoted_goes : {q : ℕ} {t t' : List ℕ} → Opened s at → r < first_failure → Leafed kind_bytes (at + 1) (r - 1) r c q t t' → Goes 0 quoted s c q t t'
+  pub quoted_goes : {e : ℕ} {q : Cursor} {t t' : List ℕ} → Opened s at.place → r ≡ Ok e → Leafed kind_bytes (at.place + 1) (e - 1) e at q t t' → Goes 0 quoted s c (Ok q) t t'
   unfolding quoted
   quoted_goes opened l w =
-      leaves going stands placed (leaf_lays (quotes_took opened ends l)) (omega (arith, quotes_low opened ends l)) (quotes_high opened ends l) w
+      leaves going stands (leaf_lays (quotes_took opened ends l)) (omega (arith, quotes_low opened ends l)) (quotes_high opened ends l) w
+
+-- a cursor is where it is
+pub going_here : {c : Cursor} → ◌≡◌ {A = IResult} (Ok c) (Ok c)
+going_here = refl
 
 -- what `search` is to know
 pub ruleset quoting = (quote_opens, quote_high, quote_short, quote_text, quote_cut, quote_escape, rules)
 
 pub ruleset closing = (quote_closes, quote_bad, quote_wrong, quotes_value, rules)
 
-pub ruleset quoteds = (quotes_some, quotes_word, quotes_limit, quoted_fails, quoted_goes, reads)
+pub ruleset quoteds = (quotes_some, quotes_word, quotes_start, quoted_fails, quoted_goes, going_here, reads)

@@ -1,6 +1,6 @@
 -- Fixed words: one byte, and a word whose case is ignored.
 use Prim.Native.Char.{code}
-use Prim.Native.Nat.{ℕ, suc, ◌+◌, ◌≤◌, ◌<◌}
+use Rattle.std.proofs.Common.{Ok, Err, ℕ, suc, ◌+◌, ◌≤◌, ◌<◌}
 use mathlib.Core.Path.{◌≡◌, refl, sym, ap, subst, ◌∙◌}
 use mathlib.Core.Bool.{Bool, true, false}
 use mathlib.Core.List.{List, [], ◌∷◌}
@@ -9,24 +9,21 @@ use native.Mathlib.Numerals.{add-one}
 use lib.ListN.{length, drop, get_or}
 use lib.Seq.{drop-cons}
 use lib.Dec.{eqb}
-use borrow.Author.Rules.{rules}
+use Rattle.std.proofs.Common.{rules}
 use borrow.Author.Tests.{eq-eqb, ne_eqb, eqb-true, eqb-false}
 use Rattle.grammar.specs.Forest.{none}
 use Rattle.grammar.specs.Out.{Out, took, more, refused}
 use Rattle.grammar.specs.Scan.{capital, on, end_after, fail, Scanned, ended, short, failed, scan, tag_move, tag, tag_no_case, leaf_move, first_state, leaf_fits, leaf_nodes, leaf_at}
 use Rattle.grammar.specs.Grammar.{leaf, nothing}
 use Rattle.grammar.specs.Notation.{sp, skip_opt}
-use Rattle.grammar.specs.Reading.{length_limit}
-use Rattle.table.specs.Cursor.{first_failure, refusal}
-use Rattle.table.specs.Promise.{Stands, Skims, Placed}
-use Rattle.table.proofs.Going.{Still, leaf_still, failed_skims, skims_short, skims_past, skims_refuses, skims_first, skims_none}
+use Rattle.table.specs.declared.Cursor.{Cursor}
+use Rattle.table.specs.declared.Failure.TheVariants as failure
+use Rattle.table.specs.Cursor.{IResult}
+use Rattle.table.specs.Promise.{Stands, Skims, Moved}
+use Rattle.table.proofs.Going.{Still, leaf_still, failed_skims, skims_short, skims_moves, skims_refuses, skims_first, skims_none}
 use Rattle.table.proofs.Bounds.{room}
+use Rattle.table.proofs.Cursors.{went_on, came_back, handed_back}
 use Rattle.parser_core.proofs.Scanning.{Scanning, scanning_starts, scanning_on, scanning_short, scanning_ends_after, scanning_fails}
-
--- two letters -------------------------------------------------------------------------------------------------------------------
-
-pub letter_same : {a b : ℕ} → a ≡ b → true ≡ eqb (capital a) (capital b)
-letter_same {a} {b} p = sym (eq-eqb (capital a) (capital b) (ap capital p))
 
 -- what a word's scan finds --------------------------------------------------------------------------------------------------------
 
@@ -34,12 +31,12 @@ letter_same {a} {b} p = sym (eq-eqb (capital a) (capital b) (ap capital p))
 abbrev pub scan_word : (ℕ → ℕ) → List ℕ → List ℕ → ℕ → Scanned
 scan_word fold word s at = scan (λ state value b. tag_move fold word state b) 0 0 (drop at s) at
 
-abbrev tag_out : Scanned → Out
+abbrev pub tag_out : Scanned → Out
 tag_out (ended end value) = took end none
 tag_out short = more 0
 tag_out failed = refused
 
-tag_found : {word s : List ℕ} {at : ℕ} (x : Scanned) → scan_word (λ c. c) word s at ≡ x → Still 0 (leaf (tag word)) s at (tag_out x)
+pub tag_found : {word s : List ℕ} {at : ℕ} (x : Scanned) → scan_word (λ c. c) word s at ≡ x → Still 0 (leaf (tag word)) s at (tag_out x)
 unfolding leaf_at leaf_move first_state leaf_fits leaf_nodes
 tag_found (ended end value) p = leaf_still (took end none) (λ t. refl) (rw p)
 tag_found short p = leaf_still (more 0) (λ t. refl) (rw p)
@@ -56,30 +53,29 @@ no_case_found failed p = leaf_still refused (λ t. refl) (rw p)
 byte_starts : (b : ℕ) {s : List ℕ} {at : ℕ} → at ≤ length s → Scanning (λ state value x. tag_move (λ c. c) (b ∷ []) state x) 0 0 s at 0 0 at
 byte_starts b h = scanning_starts h
 
-module _ {b : ℕ} {s : List ℕ} {c at : ℕ} (going : c < first_failure) (stands : Stands 0 s c) (placed : Placed c at) where
-  pub byte_short : length s ≤ at → Skims (leaf (tag (b ∷ []))) s c first_failure
-  byte_short h = skims_short going stands placed (tag_found short (scanning_short (byte_starts b (room going stands placed).inside) h))
+module _ {b : ℕ} {s : List ℕ} {c : IResult} {at : Cursor} (going : c ≡ Ok at) (stands : Stands 0 s c) where
+  pub byte_short : length s ≤ at.place → Skims (leaf (tag (b ∷ []))) s c (Err (failure.Unfinished 0))
+  byte_short h = skims_short going stands (tag_found short (scanning_short (byte_starts b (room going stands).inside) h))
 
-  module _ (h : at < length s) where
-    pub byte_taken : {q : ℕ} → get_or s at 0 ≡ b → q ≡ c + 1 → Skims (leaf (tag (b ∷ []))) s c q
-    byte_taken {q} p e =
-        let m : tag_move (λ c. c) (b ∷ []) 0 (get_or s at 0) ≡ end_after 0 = rw (eq-eqb (get_or s at 0) b p) in
-        subst (λ (k : ℕ). Skims (leaf (tag (b ∷ []))) s c k) (sym e)
-        (skims_past going stands placed 1 (tag_found (ended (at + 1) 0) (scanning_ends_after (byte_starts b (omega arith)) h m)) (omega arith))
+  module _ (h : at.place < length s) where
+    pub byte_taken : {q : Cursor} → get_or s at.place 0 ≡ b → Moved at (at.place + 1) q → Skims (leaf (tag (b ∷ []))) s c (Ok q)
+    byte_taken p e =
+        let m : tag_move (λ c. c) (b ∷ []) 0 (get_or s at.place 0) ≡ end_after 0 = rw (eq-eqb (get_or s at.place 0) b p) in
+        skims_moves going stands (tag_found (ended (at.place + 1) 0) (scanning_ends_after (byte_starts b (omega arith)) h m)) (omega arith) (omega arith) e
 
-    pub byte_refused : (get_or s at 0 ≡ b → ⊥) → Skims (leaf (tag (b ∷ []))) s c refusal
+    pub byte_refused : (get_or s at.place 0 ≡ b → ⊥) → Skims (leaf (tag (b ∷ []))) s c (Err failure.Refused)
     byte_refused p =
-        let m : tag_move (λ c. c) (b ∷ []) 0 (get_or s at 0) ≡ fail = rw (ne_eqb (get_or s at 0) b p) in
-        skims_refuses going stands placed (tag_found failed (scanning_fails (byte_starts b (omega arith)) h m))
+        let m : tag_move (λ c. c) (b ∷ []) 0 (get_or s at.place 0) ≡ fail = rw (ne_eqb (get_or s at.place 0) b p) in
+        skims_refuses going stands (tag_found failed (scanning_fails (byte_starts b (omega arith)) h m))
 
 -- a space, or none ---------------------------------------------------------------------------------------------------------------
 
-module _ {s : List ℕ} {c q : ℕ} (x : Skims (leaf (tag (code " " ∷ []))) s c q) where
-  pub space_none : q ≡ refusal → Stands 0 s c → Skims (skip_opt sp) s c c
+module _ {s : List ℕ} {c q : IResult} (x : Skims (leaf (tag (code " " ∷ []))) s c q) where
+  pub space_none : q ≡ Err failure.Refused → Stands 0 s c → Skims (skip_opt sp) s c c
   unfolding skip_opt sp
   space_none p stands = skims_none x p stands
 
-  pub space_taken : (q ≡ refusal → ⊥) → Skims (skip_opt sp) s c q
+  pub space_taken : (q ≡ Err failure.Refused → ⊥) → Skims (skip_opt sp) s c q
   unfolding skip_opt sp
   space_taken p = skims_first nothing x p
 
@@ -92,13 +88,13 @@ pub record Tagging (word s : List ℕ) (at j : ℕ) : Type 0 where
   pub going : j < length word → Scanning (λ state value b. tag_move capital word state b) 0 0 s at j 0 (at + j)
   pub done : length word ≤ j → scan_word capital word s at ≡ ended (at + j) 0
 
-pub tag_begins : {word s : List ℕ} {c at : ℕ} → c < first_failure → Stands 0 s c → Placed c at → 1 ≤ length word → Tagging word s at 0
-tag_begins {word} {s} {c} {at} going stands placed l =
-    let h = (room going stands placed).inside in
+pub tag_begins : {word s : List ℕ} {c : IResult} {at : Cursor} → c ≡ Ok at → Stands 0 s c → 1 ≤ length word → Tagging word s at.place 0
+tag_begins {word} {s} {c} {at} going stands l =
+    let h = (room going stands).inside in
     record {
       within = omega arith;
       high = omega arith;
-      going = λ k. subst (λ (i : ℕ). Scanning (λ state value b. tag_move capital word state b) 0 0 s at 0 0 i) (omega arith) (scanning_starts h);
+      going = λ k. subst (λ (i : ℕ). Scanning (λ state value b. tag_move capital word state b) 0 0 s at.place 0 0 i) (omega arith) (scanning_starts h);
       done = λ k. absurd (omega arith);
     }
 
@@ -119,13 +115,6 @@ getD_within : (l : List ℕ) (i d e : ℕ) → i < length l → get_or l i d ≡
 getD_within l i d e h = cc (drop-cons l i d h, drop-cons l i e h)
 
 module _ {word s : List ℕ} {at j : ℕ} (inv : Tagging word s at j) where
-  -- places stay within the buffer
-  pub tag_place : {c : ℕ} → Stands 0 s c → at + j < 18446744073709551616
-  tag_place stands = omega (arith, inv.high, stands.small)
-
-  pub tag_less : {c : ℕ} → Stands 0 s c → length word ≤ j → length word ≤ length_limit
-  tag_less stands l = omega (arith, inv.high, inv.within, stands.small)
-
   module _ {t : Bool} (l : j < length word) (h : at + j < length s) (p : t ≡ eqb (capital (get_or s (at + j) 0)) (capital (get_or word j 0))) where
     -- what the definition asks for is the word's byte
     asked : capital (get_or word j 0) ≡ capital (get_or word j (code " "))
@@ -143,28 +132,31 @@ module _ {word s : List ℕ} {at j : ℕ} (inv : Tagging word s at j) where
           done = λ k. scanning_ends_after (inv.going l) h (tag_last word j (get_or s (at + j) 0) same (omega arith)) ∙ ap (λ (i : ℕ). ended i 0) next;
         }
 
-    pub tag_differs : {c : ℕ} → c < first_failure → Stands 0 s c → Placed c at → t ≡ false → Skims (leaf (tag_no_case word)) s c refusal
-    tag_differs going stands placed e =
+    pub differs : t ≡ false → Still 0 (leaf (tag_no_case word)) s at refused
+    differs e =
         let other = eqb-false (capital (get_or s (at + j) 0)) (capital (get_or word j 0)) (sym p ∙ e) in
-        skims_refuses going stands placed
-        (no_case_found failed (scanning_fails (inv.going l) h (tag_apart word j (get_or s (at + j) 0) (λ x. other (x ∙ sym asked)))))
+        no_case_found failed (scanning_fails (inv.going l) h (tag_apart word j (get_or s (at + j) 0) (λ x. other (x ∙ sym asked))))
 
-  module _ {c : ℕ} (going : c < first_failure) (stands : Stands 0 s c) (placed : Placed c at) where
-    pub tag_short : j < length word → length s ≤ at + j → Skims (leaf (tag_no_case word)) s c first_failure
-    tag_short l h = skims_short going stands placed (no_case_found short (scanning_short (inv.going l) h))
+module _ {word s : List ℕ} {c : IResult} {at : Cursor} {j : ℕ} (going : c ≡ Ok at) (stands : Stands 0 s c) (inv : Tagging word s at.place j) where
+  pub tag_less : length word ≤ j → at.place + length word < 18446744073709551616
+  tag_less l = omega (arith, inv.high, inv.within, stands.small)
 
-    pub tag_done : {q : ℕ} → length word ≤ j → q ≡ c + length word → Skims (leaf (tag_no_case word)) s c q
-    tag_done {q} l e =
-        let n : at + j ≡ at + length word = omega (arith, inv.within) in
-        subst (λ (k : ℕ). Skims (leaf (tag_no_case word)) s c k) (sym e)
-        (skims_past going stands placed (length word) (no_case_found (ended (at + length word) 0) (inv.done l ∙ ap (λ (i : ℕ). ended i 0) n))
-        (omega (arith, inv.high)))
+  pub tag_differs : {t : Bool} → j < length word → at.place + j < length s → t ≡ eqb (capital (get_or s (at.place + j) 0)) (capital (get_or word j 0)) → t ≡ false
+      → Skims (leaf (tag_no_case word)) s c (Err failure.Refused)
+  tag_differs l h p e = skims_refuses going stands (differs inv l h p e)
+
+  pub tag_short : j < length word → length s ≤ at.place + j → Skims (leaf (tag_no_case word)) s c (Err (failure.Unfinished 0))
+  tag_short l h = skims_short going stands (no_case_found short (scanning_short (inv.going l) h))
+
+  pub tag_done : {q : Cursor} → length word ≤ j → Moved at (at.place + length word) q → Skims (leaf (tag_no_case word)) s c (Ok q)
+  tag_done l m =
+      let n : at.place + j ≡ at.place + length word = omega (arith, inv.within) in
+      skims_moves going stands (no_case_found (ended (at.place + length word) 0) (inv.done l ∙ ap (λ (i : ℕ). ended i 0) n))
+      (omega arith) (omega (arith, inv.high)) m
 
 -- what `search` is to know
-pub ruleset letters = (letter_same, rules)
+pub ruleset byte = (failed_skims, byte_short, byte_taken, byte_refused, went_on, came_back, handed_back, rules)
 
-pub ruleset byte = (failed_skims, byte_short, byte_taken, byte_refused, rules)
+pub ruleset word = (failed_skims, tag_begins, tag_less, tag_agrees, tag_differs, tag_short, tag_done, went_on, came_back, handed_back, rules)
 
-pub ruleset word = (failed_skims, tag_begins, tag_place, tag_less, tag_agrees, tag_differs, tag_short, tag_done, rules)
-
-pub ruleset option = (space_none, space_taken, rules)
+pub ruleset option = (space_none, space_taken, went_on, came_back, handed_back, rules)

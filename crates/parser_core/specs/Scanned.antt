@@ -1,24 +1,26 @@
--- What the functions that only scan find, as numbers: a place is itself, and so a cursor with no nodes; a failure is a cursor's.
+-- What the functions that only scan find: a place, or how the reading ends there.
 use Prim.Native.Char.{code}
-use Rattle.std.specs.Prelude.{ℕ, ◌+◌, ◌*◌, ◌<◌, ◌≡◌, List, length, drop, get_or, leb}
-use Rattle.grammar.specs.Forest.{none, tree}
+use Rattle.std.specs.Prelude.{ℕ, ◌<◌, ◌≡◌, Bool, List, length, drop, get_or, leb, Option, Some, None, Result, Ok, Err}
 use Rattle.grammar.specs.Out.{Out, took, more, refused, deep, branch}
-use Rattle.grammar.specs.Scan.{Leaf, digits, leaf_at, leaf_found, Scanned, ended, short, failed, scan, digits_move, header_move, two_32, largest_32}
-use Rattle.table.specs.Cursor.{first_failure, refusal, too_deep}
-use Rattle.parser_core.specs.declared.Value.{Value}
-use Rattle.parser_core.specs.declared.Value.TheVariants.{Fits, Large}
-use Rattle.parser_core.specs.declared.Numeral.{Numeral}
-use Rattle.parser_core.specs.declared.Numeral.TheVariants as numeral
+use Rattle.grammar.specs.Scan.{Leaf, leaf_at, Scanned, ended, short, failed, scan, digits_move, header_move}
+use Rattle.table.specs.declared.Failure.{Failure}
+use Rattle.table.specs.declared.Failure.TheVariants.{Unfinished, Refused, TooDeep}
+
+-- runs ----------------------------------------------------------------------------------------------------------------------------
+
+-- what a closure answers of a byte is whether it is of a class
+pub record Tests (answers : ℕ → Bool → Type 0) (class : ℕ → Bool) : Type 0 where
+  pub is : (b : ℕ) (r : Bool) → b < 256 → answers b r → r ≡ class b
 
 -- where a leaf ends -------------------------------------------------------------------------------------------------------------
 
-abbrev pub end_of : Out → ℕ
-end_of (took end f) = end
-end_of (more wanted) = first_failure + wanted
-end_of refused = refusal
-end_of deep = too_deep
+abbrev pub end_of : Out → Result ℕ Failure
+end_of (took end f) = Ok end
+end_of (more wanted) = Err (Unfinished wanted)
+end_of refused = Err Refused
+end_of deep = Err TooDeep
 
-pub record Ends (l : Leaf) (s : List ℕ) (at r : ℕ) : Type 0 where
+pub record Ends (l : Leaf) (s : List ℕ) (at : ℕ) (r : Result ℕ Failure) : Type 0 where
   pub is : r ≡ end_of (leaf_at l s at)
 
 -- what `quoted_end` may assume: the opening quote stands there
@@ -28,45 +30,31 @@ pub record Opened (s : List ℕ) (at : ℕ) : Type 0 where
 
 -- numbers ----------------------------------------------------------------------------------------------------------------------
 
--- one of 32 bits: its end and its value in one number
-abbrev pub number_of : Out → ℕ
-number_of (took end none) = refusal
-number_of (took end (tree kind low high below after)) = end * two_32 + low
-number_of (more wanted) = first_failure + wanted
-number_of refused = refusal
-number_of deep = too_deep
+-- a value that is not too large
+abbrev pub value_of : ℕ → ℕ → Option ℕ
+value_of largest v = branch (leb v largest) (λ u. Some v) (λ u. None)
 
-pub record Counts (s : List ℕ) (at d : ℕ) : Type 0 where
-  pub is : d ≡ number_of (leaf_at (digits largest_32) s at)
+-- where the digits end, and their value; one that is too large is wrong
+abbrev pub number_of : ℕ → Scanned → Result (ℕ × ℕ) Failure
+number_of largest (ended end v) = branch (leb v largest) (λ u. Ok (end, v)) (λ u. Err Refused)
+number_of largest short = Err (Unfinished 0)
+number_of largest failed = Err Refused
 
--- the rest of one whose value is too large already, whatever it is and wherever it began
-pub record Overruns (s : List ℕ) (at r : ℕ) : Type 0 where
-  pub is : (start value : ℕ) → largest_32 < value → r ≡ number_of (leaf_found (digits largest_32) start (scan digits_move 1 value (drop at s) at))
+pub record Counts (largest : ℕ) (s : List ℕ) (at : ℕ) (r : Result (ℕ × ℕ) Failure) : Type 0 where
+  pub is : r ≡ number_of largest (scan digits_move 0 0 (drop at s) at)
 
--- one of 64: a value that may be too large
-abbrev pub value_of : ℕ → ℕ → Value
-value_of largest v = branch (leb v largest) (λ u. Fits v) (λ u. Large)
-
-abbrev pub valued_digits : ℕ → Value → Numeral
-valued_digits next (Fits v) = numeral.Value next v
-valued_digits next Large = numeral.Wrong
-
-abbrev pub as_digits : ℕ → Scanned → Numeral
-as_digits largest (ended end value) = valued_digits end (value_of largest value)
-as_digits largest short = numeral.Short
-as_digits largest failed = numeral.Wrong
-
-pub record Counts64 (largest : ℕ) (s : List ℕ) (at : ℕ) (r : Numeral) : Type 0 where
-  pub is : r ≡ as_digits largest (scan digits_move 0 0 (drop at s) at)
+-- the rest of one whose value is too large already, whatever it is
+pub record Overruns (s : List ℕ) (at : ℕ) (f : Failure) : Type 0 where
+  pub is : (largest value : ℕ) → largest < value → number_of largest (scan digits_move 1 value (drop at s) at) ≡ Err f
 
 -- literals -----------------------------------------------------------------------------------------------------------------------
 
 -- where the content begins, and how many bytes were announced
-abbrev pub header_of : Scanned → ℕ
-header_of (ended start count) = start * two_32 + count
-header_of short = first_failure
-header_of failed = refusal
+abbrev pub header_of : Scanned → Result (ℕ × ℕ) Failure
+header_of (ended start count) = Ok (start, count)
+header_of short = Err (Unfinished 0)
+header_of failed = Err Refused
 
 -- from a state of the header on, with a count
-pub record Headers (state value : ℕ) (s : List ℕ) (at h : ℕ) : Type 0 where
+pub record Headers (state value : ℕ) (s : List ℕ) (at : ℕ) (h : Result (ℕ × ℕ) Failure) : Type 0 where
   pub is : h ≡ header_of (scan header_move state value (drop at s) at)

@@ -9,6 +9,7 @@ use lib.Seq.{sets, sets-eq}
 use borrow.Author.Tests.{le-leb, lt-leb}
 use Rattle.grammar.specs.Reading.{result}
 use Rattle.views.specs.View.{part_at, answer_of, offset_of, length_of}
+use Rattle.std.proofs.Common.{Option}
 use Rattle.views.specs.declared.Part.{Part}
 use Rattle.reader.specs.declared.Answer.{Answer}
 use Rattle.reader.specs.Answers.{Answers, numbered}
@@ -37,7 +38,7 @@ reports {n} {r} {s} {t} {t'} {out} {out'} b answers is answer words =
     }
 
 -- the part that was found, by the code's test and by the definition
-pub shows : {len node r : ℕ} {t out out' : List ℕ} {p : Part} (q : Part) → p ≡ part_at len t node → p ≡ q → r ≡ answer_of q
+pub shows : {len node r : ℕ} {t out out' : List ℕ} {p : Option Part} (q : Option Part) → p ≡ part_at len t node → p ≡ q → r ≡ answer_of q
     → out' ≡ in_front (offset_of q ∷ length_of q ∷ []) out → Shows len t node out r out'
 shows {len} {node} {r} {t} {out} q found is answer words =
     let e : q ≡ part_at len t node = sym is ∙ found in

@@ -1,7 +1,8 @@
 -- The numbers of docs/RULES.md for each case of the answer, and the promise of a reading.
 use Rattle.std.specs.Prelude.{ℕ, ◌≡◌, List}
 use Rattle.grammar.specs.Reading.{Result, no_reading, result}
-use Rattle.table.specs.Cursor.{Step, Took, More, Refused, Deep}
+use Rattle.table.specs.declared.Failure.{Failure}
+use Rattle.table.specs.declared.Failure.TheVariants as failure
 use Rattle.reader.specs.declared.Answer.{Answer}
 use Rattle.reader.specs.declared.Answer.TheVariants.{Accepted, Unfinished, NotTheGrammar, TooDeep, NoRoom, UnknownRule, TooLong}
 
@@ -20,8 +21,7 @@ pub record Answers (n : ℕ) (s t : List ℕ) (r : Answer) (t' : List ℕ) : Typ
   pub is : numbered r t' ≡ result n s t
 
 -- the answer to a pass that failed
-abbrev pub failed : Step → Answer
-failed (Took next nodes) = NotTheGrammar
-failed (More wanted) = Unfinished wanted
-failed Refused = NotTheGrammar
-failed Deep = TooDeep
+abbrev pub failed : Failure → Answer
+failed (failure.Unfinished wanted) = Unfinished wanted
+failed failure.Refused = NotTheGrammar
+failed failure.TooDeep = TooDeep

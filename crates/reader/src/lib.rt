@@ -6,16 +6,19 @@
 
 #![tactic(auto)]
 
-ghost use Rattle.std.specs.Prelude.{◌≡◌, [], ◌∷◌, ◌++◌, ◌≤◌, length, take, drop};
+ghost use Rattle.std.specs.Prelude.{◌≡◌, [], ◌∷◌, ◌≤◌, ◌<◌, ◌*◌, ◌^◌, length};
 ghost use Rattle.grammar.specs.Rules.{rule};
 ghost use Rattle.grammar.specs.Reading.{deepest_level, length_limit, last_rule};
-ghost use Rattle.table.specs.Cursor.{step, first_failure};
+ghost use Rattle.table.specs.Cursor.{first};
 ghost use Rattle.table.specs.Promise.{Reads};
 ghost use Rattle.reader.specs.Answers.{Answers, failed};
 ghost use Rattle.reader.specs.Exports.{in_front, Reports, Shows};
 
-// What a reading answers. specs/Answers.antt gives the number of each case.
-#[derive(Clone, Copy)]
+use table::{Cursor, Failure, IResult};
+
+// What a reading answers. specs/Answers.antt gives the number of each case. An enum of its own, where Result would do: docs/RULES.md
+// numbers its seven cases, and the theorems of proofs/Demands.antt speak of them by name.
+#[derive(Clone, Copy, Debug, PartialEq, Eq)]
 pub enum Answer {
     Accepted { taken: usize, nodes: usize },
     Unfinished { wanted: usize },
@@ -26,156 +29,102 @@ pub enum Answer {
     TooLong,
 }
 
-// ----- one pass by the rule with this number -----
+// ----- one pass by the rule with this number: a number, as callers in any language name it -----
 
 // No other number comes here: `read` gives those answer 5.
-fn once(number: u32, s: &[u8], t: &mut [u32]) -> u64
+fn once(number: u32, s: &[u8], t: &mut [u32]) -> IResult
     requires in_limit { length s.now ≤ length_limit }
     requires known_rule { (1 ≤ number) × (number ≤ last_rule) }
-    ensures { Reads deepest_level (rule number) s.now 0 result t.old t.new }
+    ensures { Reads deepest_level (rule number) s.now first result t.old t.new }
 {
+    let first = Ok(Cursor { place: 0, nodes: 0 });
     match number {
-        1 => parser_core::number(&*s, 0, t),
-        2 => parser_core::number_64(&*s, 0, t),
-        3 => parser_core::quoted(&*s, 0, t),
-        4 => parser_core::literal(&*s, 0, t),
-        5 => parser_core::string(&*s, 0, t),
-        6 => parser_core::astring(&*s, 0, t),
-        7 => parser_core::nstring(&*s, 0, t),
-        8 => parser_core::text(&*s, 0, t),
-        9 => lists::sequence_set(&*s, 0, t),
-        10 => rfc4315::uid_set(&*s, 0, t),
-        11 => rfc3501_body::section(&*s, 0, t),
-        12 => rfc5464::entry_name(&*s, 0, t),
-        13 => rfc3501_envelope::envelope(&*s, 0, t),
-        14 => rfc3501_body_structure::body(&*s, 0, t, grammar::DEEPEST_LEVEL),
-        15 => rfc4315::resp_text_code_append_uid(&*s, 0, t),
-        16 => rfc4315::resp_text_code_copy_uid(&*s, 0, t),
-        17 => rfc4315::resp_text_code_uid_not_sticky(&*s, 0, t),
-        18 => rfc7162::resp_vanished(&*s, 0, t),
-        19 => rfc4551::resp_text_code_highest_mod_seq(&*s, 0, t),
-        20 => rfc4551::msg_att_mod_seq(&*s, 0, t),
-        21 => rfc3501_body::msg_att_body_section(&*s, 0, t),
-        22 => rfc5464::metadata_solicited(&*s, 0, t),
-        23 => rfc5464::metadata_unsolicited(&*s, 0, t),
-        24 => rfc3501_envelope::msg_att_envelope(&*s, 0, t),
-        25 => rfc3501_body_structure::msg_att_body_structure(&*s, 0, t, grammar::DEEPEST_LEVEL),
-        _ => table::REFUSED,
+        1 => parser_core::number(s, first, t),
+        2 => parser_core::number_64(s, first, t),
+        3 => parser_core::quoted(s, first, t),
+        4 => parser_core::literal(s, first, t),
+        5 => parser_core::string(s, first, t),
+        6 => parser_core::astring(s, first, t),
+        7 => parser_core::nstring(s, first, t),
+        8 => parser_core::text(s, first, t),
+        9 => lists::sequence_set(s, first, t),
+        10 => rfc4315::uid_set(s, first, t),
+        11 => rfc3501_body::section(s, first, t),
+        12 => rfc5464::entry_name(s, first, t),
+        13 => rfc3501_envelope::envelope(s, first, t),
+        14 => rfc3501_body_structure::body(s, first, t, grammar::DEEPEST_LEVEL),
+        15 => rfc4315::resp_text_code_append_uid(s, first, t),
+        16 => rfc4315::resp_text_code_copy_uid(s, first, t),
+        17 => rfc4315::resp_text_code_uid_not_sticky(s, first, t),
+        18 => rfc7162::resp_vanished(s, first, t),
+        19 => rfc4551::resp_text_code_highest_mod_seq(s, first, t),
+        20 => rfc4551::msg_att_mod_seq(s, first, t),
+        21 => rfc3501_body::msg_att_body_section(s, first, t),
+        22 => rfc5464::metadata_solicited(s, first, t),
+        23 => rfc5464::metadata_unsolicited(s, first, t),
+        24 => rfc3501_envelope::msg_att_envelope(s, first, t),
+        25 => rfc3501_body_structure::msg_att_body_structure(s, first, t, grammar::DEEPEST_LEVEL),
+        _ => Err(Failure::Refused),
     }
 }
 
 // ----- the reading -----
 
 // The answer of a pass that failed.
-fn failure(q: u64) -> Answer
-    requires { first_failure ≤ q }
-    ensures { result ≡ failed (step q) }
-{
-    if q == table::REFUSED {
-        return Answer::NotTheGrammar;
-    }
-    if q == table::DEEP {
-        return Answer::TooDeep;
-    }
-    Answer::Unfinished {
-        wanted: table::wanted(q),
+impl From<Failure> for Answer {
+    ghost from_gives = { λ failure answer. answer ≡ failed failure };
+
+    fn from(failure: Failure) -> Answer {
+        match failure {
+            Failure::Unfinished { wanted } => Answer::Unfinished { wanted },
+            Failure::Refused => Answer::NotTheGrammar,
+            Failure::TooDeep => Answer::TooDeep,
+        }
     }
 }
 
-// The first k words of `from` to the front of the table; its rest stays.
-fn copy_front(from: &[u32], t: &mut [u32], k: usize)
-    requires { (k ≤ length from.now) × (k ≤ length t.old) }
-    ensures { t.new ≡ take k from.now ++ drop k t.old }
-{
-    let mut i = 0;
-    while i < k {
-        t[i] = from[i];
-        i = i + 1;
-    }
-}
-
-// A reading by way of these words: their nodes are copied, and more nodes than they hold are read anew, into the table.
+// A reading by way of these words: their nodes are copied, and more nodes than they hold are read anew, into the table. The two clauses go
+// along from `read_known` to `once`: a type for them would be made in the one and taken apart in the other.
 fn read_by(number: u32, s: &[u8], scratch: &mut [u32], t: &mut [u32]) -> Answer
     requires in_limit { length s.now ≤ length_limit }
     requires known_rule { (1 ≤ number) × (number ≤ last_rule) }
     ensures { Answers number s.now t.old result t.new }
 {
-    let q = once(number, &*s, scratch);
-    if table::FAILED <= q {
-        return failure(q);
-    }
-    let taken = table::place(q);
-    let nodes = table::nodes(q);
+    let c = match once(number, s, scratch) {
+        Ok(c) => c,
+        Err(failure) => return Answer::from(failure),
+    };
+    let nodes = c.nodes;
     if t.len() / 4 < nodes {
         return Answer::NoRoom { nodes };
     }
     let k = 4 * nodes;
     if k <= scratch.len() {
-        copy_front(&*scratch, t, k);
+        t[..k].copy_from_slice(&scratch[..k]);
     } else {
-        once(number, &*s, &mut t[..k]);
+        let _ = once(number, s, &mut t[..k]);
     }
-    Answer::Accepted { taken, nodes }
+    Answer::Accepted {
+        taken: c.place,
+        nodes,
+    }
 }
 
-// The reader's own words are cleared first, and to clear many takes longer than a short reading does: few for a rule whose
-// readings have few nodes however long the buffer is, few for a short buffer.
-
-fn read_by_64(number: u32, s: &[u8], t: &mut [u32]) -> Answer
+// A reading by way of N words of the reader's own. They are cleared first, and to clear many takes longer than a short reading
+// does: few for a rule whose readings have few nodes however long the buffer is, few for a short buffer.
+fn read_by_words<const N: usize>(number: u32, s: &[u8], t: &mut [u32]) -> Answer
+    requires an_array { N * 4 < 2 ^ 63 }
     requires in_limit { length s.now ≤ length_limit }
     requires known_rule { (1 ≤ number) × (number ≤ last_rule) }
     ensures { Answers number s.now t.old result t.new }
 {
-    let mut scratch = [0u32; 64];
-    read_by(number, &*s, &mut scratch, t)
-}
-
-fn read_by_256(number: u32, s: &[u8], t: &mut [u32]) -> Answer
-    requires in_limit { length s.now ≤ length_limit }
-    requires known_rule { (1 ≤ number) × (number ≤ last_rule) }
-    ensures { Answers number s.now t.old result t.new }
-{
-    let mut scratch = [0u32; 256];
-    read_by(number, &*s, &mut scratch, t)
-}
-
-fn read_by_1024(number: u32, s: &[u8], t: &mut [u32]) -> Answer
-    requires in_limit { length s.now ≤ length_limit }
-    requires known_rule { (1 ≤ number) × (number ≤ last_rule) }
-    ensures { Answers number s.now t.old result t.new }
-{
-    let mut scratch = [0u32; 1024];
-    read_by(number, &*s, &mut scratch, t)
-}
-
-fn read_by_4096(number: u32, s: &[u8], t: &mut [u32]) -> Answer
-    requires in_limit { length s.now ≤ length_limit }
-    requires known_rule { (1 ≤ number) × (number ≤ last_rule) }
-    ensures { Answers number s.now t.old result t.new }
-{
-    let mut scratch = [0u32; 4096];
-    read_by(number, &*s, &mut scratch, t)
-}
-
-fn read_by_8192(number: u32, s: &[u8], t: &mut [u32]) -> Answer
-    requires in_limit { length s.now ≤ length_limit }
-    requires known_rule { (1 ≤ number) × (number ≤ last_rule) }
-    ensures { Answers number s.now t.old result t.new }
-{
-    let mut scratch = [0u32; 8192];
-    read_by(number, &*s, &mut scratch, t)
+    let mut scratch = [0u32; N];
+    read_by(number, s, &mut scratch, t)
 }
 
 // A rule whose readings have few nodes.
 fn is_short_rule(number: u32) -> bool {
-    match number {
-        1..=8 => true,
-        11..=12 => true,
-        15 => true,
-        17 => true,
-        19..=21 => true,
-        _ => false,
-    }
+    matches!(number, 1..=8 | 11..=12 | 15 | 17 | 19..=21)
 }
 
 // A reading by a rule that there is: the length, then the scratch.
@@ -187,18 +136,18 @@ fn read_known(number: u32, s: &[u8], t: &mut [u32]) -> Answer
         return Answer::TooLong;
     }
     if is_short_rule(number) {
-        return read_by_64(number, &*s, t);
+        return read_by_words::<64>(number, s, t);
     }
     if s.len() <= 320 {
-        return read_by_256(number, &*s, t);
+        return read_by_words::<256>(number, s, t);
     }
     if s.len() <= 1280 {
-        return read_by_1024(number, &*s, t);
+        return read_by_words::<1024>(number, s, t);
     }
     if s.len() <= 5120 {
-        return read_by_4096(number, &*s, t);
+        return read_by_words::<4096>(number, s, t);
     }
-    read_by_8192(number, &*s, t)
+    read_by_words::<8192>(number, s, t)
 }
 
 // Reads the buffer's beginning by the rule with this number. The nodes' words are written to the table's beginning.
@@ -213,7 +162,7 @@ pub fn read(number: u32, s: &[u8], t: &mut [u32]) -> Answer
 
 // ----- for other languages: numbers and slices only; crate reader_c exports the two public ones (include/elbomavund.h) -----
 
-// The four numbers to the front of the caller's words, if there is room for all four.
+// The four numbers to the front of the caller's words, if there is room for all four. What goes to C is numbers, here and below.
 fn put_numbers(out: &mut [u64], answer: u32, taken: usize, nodes: usize, wanted: usize) -> u32
     ensures value { result ≡ answer }
     ensures out_after { out.new ≡ in_front (answer ∷ taken ∷ nodes ∷ wanted ∷ []) out.old }
@@ -259,9 +208,8 @@ pub fn elbomavund_read(number: u32, s: &[u8], t: &mut [u32], out: &mut [u64]) ->
 pub fn elbomavund_view(len: usize, t: &[u32], node: usize, out: &mut [u64]) -> u32
     ensures { Shows len t.now node out.old result out.new }
 {
-    let part = views::part_at(len, t, node);
-    match part {
-        views::Part::Found { start, end } => put_part(out, 0, start, end - start),
-        views::Part::Missing => put_part(out, 7, 0, 0),
+    match views::part_at(len, t, node) {
+        Some(part) => put_part(out, 0, part.start, part.end - part.start),
+        None => put_part(out, 7, 0, 0),
     }
 }

@@ -11,288 +11,172 @@ ghost use Rattle.grammar.specs.Core.{string};
 ghost use Rattle.grammar.specs.BodyStructure.{body_param, body_disposition, body_lang, encoding_is, known_encoding, body_encoding, body_fields, absents};
 ghost use Rattle.table.specs.Promise.{Stands, Reads};
 
+use table::{Failure, IResult};
+
 // string SP string
-fn param_fields(s: &[u8], c: u64, t: &mut [u32]) -> u64
+fn param_fields(s: &[u8], c: IResult, t: &mut [u32]) -> IResult
     requires { Stands 0 s.now c }
     ensures { Reads 0 (string ⋯ sp ⋯ string) s.now c result t.old t.new }
 {
-    let r = parser_core::string(&*s, c, t);
-    parser_core::sp_string(&*s, r, t)
+    let c = parser_core::string(s, c, t)?;
+    parser_core::sp_string(s, Ok(c), t)
 }
 
 // One parameter: a pair.
-fn param(s: &[u8], c: u64, t: &mut [u32]) -> u64
+fn param(s: &[u8], c: IResult, t: &mut [u32]) -> IResult
     requires { Stands 0 s.now c }
     ensures { Reads 0 (does (node kind_pair) (string ⋯ sp ⋯ string)) s.now c result t.old t.new }
 {
-    if table::FAILED <= c {
-        return c;
-    }
-    let k = table::inside(t.len(), c);
-    let r = param_fields(&*s, table::start(c), &mut t[k..]);
-    table::finish(t, grammar::KIND_PAIR, c, r)
-}
-
-// SP and a parameter.
-fn sp_param(s: &[u8], c: u64, t: &mut [u32]) -> u64
-    requires { Stands 0 s.now c }
-    ensures { Reads 0 (sp ⋯ does (node kind_pair) (string ⋯ sp ⋯ string)) s.now c result t.old t.new }
-{
-    let r = parser_core::char(&*s, c, b' ');
-    if table::FAILED <= r {
-        return r;
-    }
-    param(&*s, r, t)
-}
-
-// Parameters, with a space between two of them.
-fn params(s: &[u8], c: u64, t: &mut [u32]) -> u64
-    requires { Stands 0 s.now c }
-    ensures { Reads 0 (separated_list1 sp (does (node kind_pair) (string ⋯ sp ⋯ string))) s.now c result t.old t.new }
-{
-    if table::FAILED <= c {
-        return c;
-    }
-    let k = table::inside(t.len(), c);
-    let first = param(&*s, table::start(c), &mut t[k..]);
-    if table::FAILED <= first {
-        return first;
-    }
-    let mut e = first;
-    let mut count: u32 = 1;
-    loop {
-        let r = sp_param(&*s, e, &mut t[k..]);
-        if table::FAILED <= r {
-            return table::list(t, c, e, count, r);
-        }
-        e = r;
-        count += 1;
-    }
+    table::parent(s, c, t, grammar::KIND_PAIR, param_fields)
 }
 
 // "(" string SP string *(SP string SP string) ")"
-fn some_params(s: &[u8], c: u64, t: &mut [u32]) -> u64
+fn some_params(s: &[u8], c: IResult, t: &mut [u32]) -> IResult
     requires { Stands 0 s.now c }
     ensures { Reads 0 (parenthesized_nonempty_list (does (node kind_pair) (string ⋯ sp ⋯ string))) s.now c result t.old t.new }
 {
-    let r = parser_core::char(&*s, c, b'(');
-    let r = params(&*s, r, t);
-    let r = parser_core::space0(&*s, r);
-    parser_core::char(&*s, r, b')')
+    lists::parenthesized_nonempty_list(s, c, t, param)
 }
 
 // body-fld-param = "(" string SP string *(SP string SP string) ")" / nil
-pub fn body_param(s: &[u8], c: u64, t: &mut [u32]) -> u64
+pub fn body_param(s: &[u8], c: IResult, t: &mut [u32]) -> IResult
     requires { Stands 0 s.now c }
     ensures { Reads 0 body_param s.now c result t.old t.new }
 {
-    if table::FAILED <= c {
-        return c;
-    }
-    let i = table::place(c);
-    if s.len() <= i {
-        return table::FAILED;
-    }
-    if s[i] == b'(' {
-        return some_params(&*s, c, t);
-    }
-    parser_core::nil(&*s, c, t)
+    parser_core::nil_or(s, c, t, some_params)
 }
 
 // "(" string SP body-fld-param ")"
-fn disposition_fields(s: &[u8], c: u64, t: &mut [u32]) -> u64
+fn disposition_fields(s: &[u8], c: IResult, t: &mut [u32]) -> IResult
     requires { Stands 0 s.now c }
     ensures { Reads 0 (opening ⋯ string ⋯ sp ⋯ body_param ⋯ closing) s.now c result t.old t.new }
 {
-    let r = parser_core::char(&*s, c, b'(');
-    let r = parser_core::string(&*s, r, t);
-    let r = parser_core::char(&*s, r, b' ');
-    let r = body_param(&*s, r, t);
-    parser_core::char(&*s, r, b')')
+    let c = parser_core::char(s, c, b'(')?;
+    let r = parser_core::string(s, Ok(c), t);
+    let r = parser_core::char(s, r, b' ');
+    let r = body_param(s, r, t);
+    parser_core::char(s, r, b')')
 }
 
 // The same as a node.
-fn disposition(s: &[u8], c: u64, t: &mut [u32]) -> u64
+fn disposition(s: &[u8], c: IResult, t: &mut [u32]) -> IResult
     requires { Stands 0 s.now c }
     ensures { Reads 0 (does (node kind_disposition) (opening ⋯ string ⋯ sp ⋯ body_param ⋯ closing)) s.now c result t.old t.new }
 {
-    if table::FAILED <= c {
-        return c;
-    }
-    let k = table::inside(t.len(), c);
-    let r = disposition_fields(&*s, table::start(c), &mut t[k..]);
-    table::finish(t, grammar::KIND_DISPOSITION, c, r)
+    table::parent(s, c, t, grammar::KIND_DISPOSITION, disposition_fields)
 }
 
 // body-fld-dsp = "(" string SP body-fld-param ")" / nil
-pub fn body_disposition(s: &[u8], c: u64, t: &mut [u32]) -> u64
+pub fn body_disposition(s: &[u8], c: IResult, t: &mut [u32]) -> IResult
     requires { Stands 0 s.now c }
     ensures { Reads 0 body_disposition s.now c result t.old t.new }
 {
-    if table::FAILED <= c {
-        return c;
-    }
-    let i = table::place(c);
-    if s.len() <= i {
-        return table::FAILED;
-    }
-    if s[i] == b'(' {
-        return disposition(&*s, c, t);
-    }
-    parser_core::nil(&*s, c, t)
+    parser_core::nil_or(s, c, t, disposition)
 }
 
-// One string, as a list of one.
-fn one_string(s: &[u8], c: u64, t: &mut [u32]) -> u64
+// One string, as a list of one: by hand, since table::items goes on to a next item, and here there is none.
+fn one_string(s: &[u8], c: IResult, t: &mut [u32]) -> IResult
     requires { Stands 0 s.now c }
     ensures { Reads 0 (does listed string) s.now c result t.old t.new }
 {
-    if table::FAILED <= c {
-        return c;
-    }
+    let c = c?;
     let k = table::inside(t.len(), c);
-    let r = parser_core::string(&*s, table::start(c), &mut t[k..]);
-    if table::FAILED <= r {
-        return r;
-    }
-    table::list(t, c, r, 1, table::REFUSED)
+    let inner = parser_core::string(s, Ok(c.start()), &mut t[k..])?;
+    table::list(t, c, inner, 1, Err(Failure::Refused))
 }
 
 // body-fld-lang = nstring / "(" string *(SP string) ")"
-pub fn body_lang(s: &[u8], c: u64, t: &mut [u32]) -> u64
+pub fn body_lang(s: &[u8], c: IResult, t: &mut [u32]) -> IResult
     requires { Stands 0 s.now c }
     ensures { Reads 0 body_lang s.now c result t.old t.new }
 {
-    if table::FAILED <= c {
-        return c;
-    }
-    let r = parser_core::nil(&*s, c, t);
-    if r != table::REFUSED {
+    let r = parser_core::nil(s, c, t);
+    let Err(Failure::Refused) = r else {
         return r;
-    }
-    let r = one_string(&*s, c, t);
-    if r != table::REFUSED {
+    };
+    let r = one_string(s, c, t);
+    let Err(Failure::Refused) = r else {
         return r;
-    }
-    lists::parenthesized_strings(&*s, c, t)
-}
-
-// One of the encodings with a number.
-fn encoding_is(s: &[u8], c: u64, t: &mut [u32], name: &[u8], which: u32) -> u64
-    requires stands { Stands 0 s.now c }
-    requires a_byte { 1 ≤ length name.now }
-    ensures { Reads 0 (leaf (tag_no_case name.now) ⋯ mark kind_encoding which) s.now c result t.old t.new }
-{
-    let r = parser_core::tag_no_case(&*s, c, &*name);
-    table::mark(&*s, r, t, grammar::KIND_ENCODING, which)
+    };
+    lists::parenthesized_nonempty_list(s, c, t, parser_core::string)
 }
 
 // "BINARY" / "BASE64" / "QUOTED-PRINTABLE"
-fn long_encoding(s: &[u8], c: u64, t: &mut [u32]) -> u64
+fn long_encoding(s: &[u8], c: IResult, t: &mut [u32]) -> IResult
     requires { Stands 0 s.now c }
     ensures { Reads 0 (encoding_is "BINARY" 3 or encoding_is "BASE64" 4 or encoding_is "QUOTED-PRINTABLE" 5) s.now c result t.old t.new }
 {
-    let r = encoding_is(&*s, c, t, b"BINARY", 3);
-    if r != table::REFUSED {
+    let r = parser_core::value(s, c, t, b"BINARY", grammar::KIND_ENCODING, 3);
+    let Err(Failure::Refused) = r else {
         return r;
-    }
-    let r = encoding_is(&*s, c, t, b"BASE64", 4);
-    if r != table::REFUSED {
+    };
+    let r = parser_core::value(s, c, t, b"BASE64", grammar::KIND_ENCODING, 4);
+    let Err(Failure::Refused) = r else {
         return r;
-    }
-    encoding_is(&*s, c, t, b"QUOTED-PRINTABLE", 5)
+    };
+    parser_core::value(s, c, t, b"QUOTED-PRINTABLE", grammar::KIND_ENCODING, 5)
 }
 
 // "7BIT" / "8BIT" / "BINARY" / "BASE64" / "QUOTED-PRINTABLE"
-fn encoding_name(s: &[u8], c: u64, t: &mut [u32]) -> u64
+fn encoding_name(s: &[u8], c: IResult, t: &mut [u32]) -> IResult
     requires { Stands 0 s.now c }
     ensures { Reads 0 (encoding_is "7BIT" 1 or encoding_is "8BIT" 2 or encoding_is "BINARY" 3 or encoding_is "BASE64" 4 or encoding_is "QUOTED-PRINTABLE" 5) s.now c result t.old t.new }
 {
-    if table::FAILED <= c {
-        return c;
-    }
-    let r = encoding_is(&*s, c, t, b"7BIT", 1);
-    if r != table::REFUSED {
+    let r = parser_core::value(s, c, t, b"7BIT", grammar::KIND_ENCODING, 1);
+    let Err(Failure::Refused) = r else {
         return r;
-    }
-    let r = encoding_is(&*s, c, t, b"8BIT", 2);
-    if r != table::REFUSED {
+    };
+    let r = parser_core::value(s, c, t, b"8BIT", grammar::KIND_ENCODING, 2);
+    let Err(Failure::Refused) = r else {
         return r;
-    }
-    long_encoding(&*s, c, t)
+    };
+    long_encoding(s, c, t)
 }
 
 // DQUOTE ("7BIT" / "8BIT" / "BINARY" / "BASE64"/ "QUOTED-PRINTABLE") DQUOTE
-fn known_encoding(s: &[u8], c: u64, t: &mut [u32]) -> u64
+fn known_encoding(s: &[u8], c: IResult, t: &mut [u32]) -> IResult
     requires { Stands 0 s.now c }
     ensures { Reads 0 known_encoding s.now c result t.old t.new }
 {
-    let r = parser_core::char(&*s, c, b'"');
-    let r = encoding_name(&*s, r, t);
-    parser_core::char(&*s, r, b'"')
+    let c = parser_core::char(s, c, b'"')?;
+    let r = encoding_name(s, Ok(c), t);
+    parser_core::char(s, r, b'"')
 }
 
 // body-fld-enc = a known encoding / string
-fn body_encoding(s: &[u8], c: u64, t: &mut [u32]) -> u64
+fn body_encoding(s: &[u8], c: IResult, t: &mut [u32]) -> IResult
     requires { Stands 0 s.now c }
     ensures { Reads 0 body_encoding s.now c result t.old t.new }
 {
-    if table::FAILED <= c {
-        return c;
-    }
-    let r = known_encoding(&*s, c, t);
-    if r != table::REFUSED {
+    let r = known_encoding(s, c, t);
+    let Err(Failure::Refused) = r else {
         return r;
-    }
-    parser_core::string(&*s, c, t)
+    };
+    parser_core::string(s, c, t)
 }
 
 // body-fields = body-fld-param SP body-fld-id SP body-fld-desc SP body-fld-enc SP body-fld-octets
-pub fn body_fields(s: &[u8], c: u64, t: &mut [u32]) -> u64
+pub fn body_fields(s: &[u8], c: IResult, t: &mut [u32]) -> IResult
     requires { Stands 0 s.now c }
     ensures { Reads 0 body_fields s.now c result t.old t.new }
 {
-    let r = body_param(&*s, c, t);
-    let r = parser_core::sp_nstring(&*s, r, t);
-    let r = parser_core::sp_nstring(&*s, r, t);
-    let r = parser_core::char(&*s, r, b' ');
-    let r = body_encoding(&*s, r, t);
-    let r = parser_core::char(&*s, r, b' ');
-    parser_core::number(&*s, r, t)
+    let r = body_param(s, c, t);
+    let r = parser_core::sp_nstring(s, r, t);
+    let r = parser_core::sp_nstring(s, r, t);
+    let r = parser_core::char(s, r, b' ');
+    let r = body_encoding(s, r, t);
+    let r = parser_core::char(s, r, b' ');
+    parser_core::number(s, r, t)
 }
 
-// Two fields that are not there.
-pub fn absent_2(s: &[u8], c: u64, t: &mut [u32]) -> u64
-    requires { Stands 2 s.now c }
-    ensures { Reads 0 (absents 2) s.now c result t.old t.new }
+// So many fields that are not there.
+pub fn absents<const N: usize>(s: &[u8], c: IResult, t: &mut [u32]) -> IResult
+    requires { Stands N s.now c }
+    ensures { Reads 0 (absents N) s.now c result t.old t.new }
 {
-    let r = table::mark(&*s, c, t, grammar::KIND_ABSENT, 0);
-    table::mark(&*s, r, t, grammar::KIND_ABSENT, 0)
-}
-
-// Three.
-pub fn absent_3(s: &[u8], c: u64, t: &mut [u32]) -> u64
-    requires { Stands 3 s.now c }
-    ensures { Reads 0 (absents 3) s.now c result t.old t.new }
-{
-    let r = absent_2(&*s, c, t);
-    table::mark(&*s, r, t, grammar::KIND_ABSENT, 0)
-}
-
-// Four.
-pub fn absent_4(s: &[u8], c: u64, t: &mut [u32]) -> u64
-    requires { Stands 4 s.now c }
-    ensures { Reads 0 (absents 4) s.now c result t.old t.new }
-{
-    let r = absent_3(&*s, c, t);
-    table::mark(&*s, r, t, grammar::KIND_ABSENT, 0)
-}
-
-// Five.
-pub fn absent_5(s: &[u8], c: u64, t: &mut [u32]) -> u64
-    requires { Stands 5 s.now c }
-    ensures { Reads 0 (absents 5) s.now c result t.old t.new }
-{
-    let r = absent_4(&*s, c, t);
-    table::mark(&*s, r, t, grammar::KIND_ABSENT, 0)
+    let mut r = c;
+    for _ in 0..N {
+        r = table::mark(s, r, t, grammar::KIND_ABSENT, 0);
+    }
+    r
 }

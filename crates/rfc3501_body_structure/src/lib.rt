@@ -1,5 +1,6 @@
 //! Bodies: imap-proto 0.17.0's src/rfc3501/body_structure.rs, `BodyStructure`. `left` is how many levels may still be opened: a body
-//! calls its message and multipart readers, which call the body reader one level deeper.
+//! calls its message and multipart readers, which call the body reader one level deeper. What takes `left` is passed on by a closure
+//! of one call with clauses; a link that would need one (`sp_body`) is two lines in its place.
 
 #![tactic(auto)]
 
@@ -9,275 +10,250 @@ ghost use Rattle.grammar.specs.Core.{number, string};
 ghost use Rattle.grammar.specs.BodyStructure.{body_fields, body_ext_1part, body_ext_mpart, body_type_text, message_fields, body_type_message, body_type_basic, body_type_multipart, msg_att_body_structure};
 ghost use Rattle.table.specs.Promise.{Stands, Reads, Skips};
 
+use table::{Failure, IResult};
+
 // SP body-fields
-fn sp_body_fields(s: &[u8], c: u64, t: &mut [u32]) -> u64
+fn sp_body_fields(s: &[u8], c: IResult, t: &mut [u32]) -> IResult
     requires { Stands 0 s.now c }
     ensures { Reads 0 (sp ⋯ body_fields) s.now c result t.old t.new }
 {
-    let r = parser_core::char(&*s, c, b' ');
-    if table::FAILED <= r {
-        return r;
-    }
-    rfc3501_body_fields::body_fields(&*s, r, t)
+    parser_core::after(s, c, t, b' ', rfc3501_body_fields::body_fields)
 }
 
 // media-text SP body-fields SP body-fld-lines
-fn text_lines(s: &[u8], c: u64, t: &mut [u32]) -> u64
+fn text_lines(s: &[u8], c: IResult, t: &mut [u32]) -> IResult
     requires { Stands 0 s.now c }
     ensures { Reads 0 (any_case "\"TEXT\"" ⋯ sp ⋯ string ⋯ sp ⋯ body_fields ⋯ sp ⋯ number) s.now c result t.old t.new }
 {
-    let r = parser_core::tag_no_case(&*s, c, b"\"TEXT\"");
-    if table::FAILED <= r {
-        return r;
-    }
-    let r = parser_core::sp_string(&*s, r, t);
-    let r = sp_body_fields(&*s, r, t);
-    parser_core::sp_number(&*s, r, t)
+    let c = parser_core::tag_no_case(s, c, b"\"TEXT\"")?;
+    let r = parser_core::sp_string(s, Ok(c), t);
+    let r = sp_body_fields(s, r, t);
+    parser_core::sp_number(s, r, t)
 }
 
 // media-text SP body-fields SP body-fld-lines [SP body-ext-1part]
-fn text_fields(s: &[u8], c: u64, t: &mut [u32], left: usize) -> u64
+fn text_fields(s: &[u8], c: IResult, t: &mut [u32], left: usize) -> IResult
     requires { Stands 0 s.now c }
     ensures { Reads left (any_case "\"TEXT\"" ⋯ sp ⋯ string ⋯ sp ⋯ body_fields ⋯ sp ⋯ number ⋯ body_ext_1part) s.now c result t.old t.new }
 {
-    let r = text_lines(&*s, c, t);
-    rfc3501_extension::body_ext_1part(&*s, r, t, left)
+    let c = text_lines(s, c, t)?;
+    rfc3501_extension::body_ext_1part(s, Ok(c), t, left)
 }
 
 // body-type-text
-fn body_type_text(s: &[u8], c: u64, t: &mut [u32], left: usize) -> u64
+fn body_type_text(s: &[u8], c: IResult, t: &mut [u32], left: usize) -> IResult
     requires { Stands 0 s.now c }
     ensures { Reads left body_type_text s.now c result t.old t.new }
 {
-    if table::FAILED <= c {
-        return c;
-    }
-    let k = table::inside(t.len(), c);
-    let r = text_fields(&*s, table::start(c), &mut t[k..], left);
-    table::finish(t, grammar::KIND_TEXT, c, r)
+    table::parent(
+        s,
+        c,
+        t,
+        grammar::KIND_TEXT,
+        |s: &[u8], c: IResult, t: &mut [u32]| -> IResult
+            requires { Stands 0 s.now c }
+            ensures { Reads left (any_case "\"TEXT\"" ⋯ sp ⋯ string ⋯ sp ⋯ body_fields ⋯ sp ⋯ number ⋯ body_ext_1part) s.now c result t.old t.new }
+        { text_fields(s, c, t, left) },
+    )
 }
 
 // media-basic SP body-fields
-fn basic_octets(s: &[u8], c: u64, t: &mut [u32]) -> u64
+fn basic_octets(s: &[u8], c: IResult, t: &mut [u32]) -> IResult
     requires { Stands 0 s.now c }
     ensures { Reads 0 (string ⋯ sp ⋯ string ⋯ sp ⋯ body_fields) s.now c result t.old t.new }
 {
-    let r = parser_core::string(&*s, c, t);
-    let r = parser_core::sp_string(&*s, r, t);
-    sp_body_fields(&*s, r, t)
+    let c = parser_core::string(s, c, t)?;
+    let r = parser_core::sp_string(s, Ok(c), t);
+    sp_body_fields(s, r, t)
 }
 
 // media-basic SP body-fields [SP body-ext-1part]
-fn basic_fields(s: &[u8], c: u64, t: &mut [u32], left: usize) -> u64
+fn basic_fields(s: &[u8], c: IResult, t: &mut [u32], left: usize) -> IResult
     requires { Stands 0 s.now c }
     ensures { Reads left (string ⋯ sp ⋯ string ⋯ sp ⋯ body_fields ⋯ body_ext_1part) s.now c result t.old t.new }
 {
-    let r = basic_octets(&*s, c, t);
-    rfc3501_extension::body_ext_1part(&*s, r, t, left)
+    let c = basic_octets(s, c, t)?;
+    rfc3501_extension::body_ext_1part(s, Ok(c), t, left)
 }
 
 // body-type-basic
-fn body_type_basic(s: &[u8], c: u64, t: &mut [u32], left: usize) -> u64
+fn body_type_basic(s: &[u8], c: IResult, t: &mut [u32], left: usize) -> IResult
     requires { Stands 0 s.now c }
     ensures { Reads left body_type_basic s.now c result t.old t.new }
 {
-    if table::FAILED <= c {
-        return c;
-    }
-    let k = table::inside(t.len(), c);
-    let r = basic_fields(&*s, table::start(c), &mut t[k..], left);
-    table::finish(t, grammar::KIND_BASIC, c, r)
+    table::parent(
+        s,
+        c,
+        t,
+        grammar::KIND_BASIC,
+        |s: &[u8], c: IResult, t: &mut [u32]| -> IResult
+            requires { Stands 0 s.now c }
+            ensures { Reads left (string ⋯ sp ⋯ string ⋯ sp ⋯ body_fields ⋯ body_ext_1part) s.now c result t.old t.new }
+        { basic_fields(s, c, t, left) },
+    )
 }
 
 // media-message SP body-fields SP envelope
-fn message_fields(s: &[u8], c: u64, t: &mut [u32]) -> u64
+fn message_fields(s: &[u8], c: IResult, t: &mut [u32]) -> IResult
     requires { Stands 0 s.now c }
     ensures { Reads 0 message_fields s.now c result t.old t.new }
 {
-    let r = parser_core::tag_no_case(&*s, c, b"\"MESSAGE\" \"RFC822\"");
-    if table::FAILED <= r {
-        return r;
-    }
-    let r = sp_body_fields(&*s, r, t);
-    let r = parser_core::char(&*s, r, b' ');
-    rfc3501_envelope::envelope(&*s, r, t)
+    let c = parser_core::tag_no_case(s, c, b"\"MESSAGE\" \"RFC822\"")?;
+    let r = sp_body_fields(s, Ok(c), t);
+    let r = parser_core::char(s, r, b' ');
+    rfc3501_envelope::envelope(s, r, t)
 }
 
 // ----- the circle: a body holds messages and multiparts, which hold bodies; each begins with its guard, or a failure would walk the levels -----
 
 // Where no level is left: a `(` is too deep, another byte fails.
-fn too_deep(s: &[u8], c: u64) -> u64
+fn too_deep(s: &[u8], c: IResult) -> IResult
     requires { Stands 0 s.now c }
     ensures { Skips (ref a_body) s.now c result }
 {
-    if table::FAILED <= c {
-        return c;
-    }
-    let r = parser_core::char(&*s, c, b'(');
-    if table::FAILED <= r {
-        return r;
-    }
-    table::DEEP
+    parser_core::char(s, c, b'(')?;
+    Err(Failure::TooDeep)
 }
 
 // body, one level deeper, where so many may still be opened
 #[cycle(body_circle)]
-pub fn body(s: &[u8], c: u64, t: &mut [u32], left: usize) -> u64
+pub fn body(s: &[u8], c: IResult, t: &mut [u32], left: usize) -> IResult
     requires { Stands 0 s.now c }
     ensures { Reads left (ref a_body) s.now c result t.old t.new }
 {
-    if table::FAILED <= c {
-        return c;
-    }
+    let c = c?;
     if left == 0 {
-        return too_deep(&*s, c);
+        return too_deep(s, Ok(c));
     }
-    let r = body_inside(&*s, c, t, left - 1);
+    let r = body_inside(s, Ok(c), t, left - 1);
     table::head(t, c, r)
 }
 
 // "(" (body-type-1part / body-type-mpart) ")"; a wrong ")" does not try the next
 #[cycle(body_circle)]
-fn body_inside(s: &[u8], c: u64, t: &mut [u32], left: usize) -> u64
+fn body_inside(s: &[u8], c: IResult, t: &mut [u32], left: usize) -> IResult
     requires { Stands 0 s.now c }
     ensures { Reads left (paren_delimited (body_type_text or body_type_message or body_type_basic or body_type_multipart)) s.now c result t.old t.new }
 {
-    let r = parser_core::char(&*s, c, b'(');
-    if table::FAILED <= r {
-        return r;
-    }
-    let r = body_types(&*s, r, t, left);
-    parser_core::char(&*s, r, b')')
+    let c = parser_core::char(s, c, b'(')?;
+    let r = body_types(s, Ok(c), t, left);
+    parser_core::char(s, r, b')')
 }
 
-// A multipart begins with its first body, and so with this; no other body does.
+// A multipart begins with its first body, and so with this; no other body does. The first byte decides, or each level would try all four.
 const BODY_OPENS: u8 = b'(';
 
 // text, message, basic, multipart, in that order
 #[cycle(body_circle)]
-fn body_types(s: &[u8], c: u64, t: &mut [u32], left: usize) -> u64
+fn body_types(s: &[u8], c: IResult, t: &mut [u32], left: usize) -> IResult
     requires { Stands 0 s.now c }
     ensures { Reads left (body_type_text or body_type_message or body_type_basic or body_type_multipart) s.now c result t.old t.new }
 {
-    if table::FAILED <= c {
-        return c;
+    let c = c?;
+    if s.len() <= c.place {
+        return Err(Failure::Unfinished { wanted: 0 });
     }
-    let i = table::place(c);
-    if s.len() <= i {
-        return table::FAILED;
+    if s[c.place] == BODY_OPENS {
+        return body_type_multipart(s, Ok(c), t, left);
     }
-    if s[i] == BODY_OPENS {
-        return body_type_multipart(&*s, c, t, left);
-    }
-    let r = body_type_text(&*s, c, t, left);
-    if r != table::REFUSED {
+    let r = body_type_text(s, Ok(c), t, left);
+    let Err(Failure::Refused) = r else {
         return r;
-    }
-    let r = body_type_message(&*s, c, t, left);
-    if r != table::REFUSED {
+    };
+    let r = body_type_message(s, Ok(c), t, left);
+    let Err(Failure::Refused) = r else {
         return r;
-    }
-    body_type_basic(&*s, c, t, left)
+    };
+    body_type_basic(s, Ok(c), t, left)
 }
 
 // body-type-msg
 #[cycle(body_circle)]
-fn body_type_message(s: &[u8], c: u64, t: &mut [u32], left: usize) -> u64
+fn body_type_message(s: &[u8], c: IResult, t: &mut [u32], left: usize) -> IResult
     requires { Stands 0 s.now c }
     ensures { Reads left body_type_message s.now c result t.old t.new }
 {
-    if table::FAILED <= c {
-        return c;
-    }
-    let k = table::inside(t.len(), c);
-    let r = message_body(&*s, table::start(c), &mut t[k..], left);
-    table::finish(t, grammar::KIND_MESSAGE, c, r)
+    table::parent(
+        s,
+        c,
+        t,
+        grammar::KIND_MESSAGE,
+        |s: &[u8], c: IResult, t: &mut [u32]| -> IResult
+            requires { Stands 0 s.now c }
+            ensures { Reads left (message_fields ⋯ sp ⋯ ref a_body ⋯ sp ⋯ number ⋯ body_ext_1part) s.now c result t.old t.new }
+        { message_body(s, c, t, left) },
+    )
 }
 
 // message-fields SP body SP body-fld-lines [SP body-ext-1part]
 #[cycle(body_circle)]
-fn message_body(s: &[u8], c: u64, t: &mut [u32], left: usize) -> u64
+fn message_body(s: &[u8], c: IResult, t: &mut [u32], left: usize) -> IResult
     requires { Stands 0 s.now c }
     ensures { Reads left (message_fields ⋯ sp ⋯ ref a_body ⋯ sp ⋯ number ⋯ body_ext_1part) s.now c result t.old t.new }
 {
-    let r = message_fields(&*s, c, t);
-    if table::FAILED <= r {
-        return r;
-    }
-    let r = sp_body(&*s, r, t, left);
-    let r = parser_core::sp_number(&*s, r, t);
-    rfc3501_extension::body_ext_1part(&*s, r, t, left)
+    let c = message_fields(s, c, t)?;
+    let r = sp_body(s, Ok(c), t, left);
+    let r = parser_core::sp_number(s, r, t);
+    rfc3501_extension::body_ext_1part(s, r, t, left)
 }
 
 // SP body
 #[cycle(body_circle)]
-fn sp_body(s: &[u8], c: u64, t: &mut [u32], left: usize) -> u64
+fn sp_body(s: &[u8], c: IResult, t: &mut [u32], left: usize) -> IResult
     requires { Stands 0 s.now c }
     ensures { Reads left (sp ⋯ ref a_body) s.now c result t.old t.new }
 {
-    let r = parser_core::char(&*s, c, b' ');
-    if table::FAILED <= r {
-        return r;
-    }
-    body(&*s, r, t, left)
+    let c = parser_core::char(s, c, b' ')?;
+    body(s, Ok(c), t, left)
 }
 
 // body-type-mpart
 #[cycle(body_circle)]
-fn body_type_multipart(s: &[u8], c: u64, t: &mut [u32], left: usize) -> u64
+fn body_type_multipart(s: &[u8], c: IResult, t: &mut [u32], left: usize) -> IResult
     requires { Stands 0 s.now c }
     ensures { Reads left body_type_multipart s.now c result t.old t.new }
 {
-    if table::FAILED <= c {
-        return c;
-    }
-    let k = table::inside(t.len(), c);
-    let r = multipart_fields(&*s, table::start(c), &mut t[k..], left);
-    table::finish(t, grammar::KIND_MULTIPART, c, r)
+    table::parent(
+        s,
+        c,
+        t,
+        grammar::KIND_MULTIPART,
+        |s: &[u8], c: IResult, t: &mut [u32]| -> IResult
+            requires { Stands 0 s.now c }
+            ensures { Reads left (many1 (ref a_body) ⋯ sp ⋯ string ⋯ body_ext_mpart) s.now c result t.old t.new }
+        { multipart_fields(s, c, t, left) },
+    )
 }
 
 // 1*body SP media-subtype [SP body-ext-mpart]
 #[cycle(body_circle)]
-fn multipart_fields(s: &[u8], c: u64, t: &mut [u32], left: usize) -> u64
+fn multipart_fields(s: &[u8], c: IResult, t: &mut [u32], left: usize) -> IResult
     requires { Stands 0 s.now c }
     ensures { Reads left (many1 (ref a_body) ⋯ sp ⋯ string ⋯ body_ext_mpart) s.now c result t.old t.new }
 {
-    let r = bodies(&*s, c, t, left);
-    let r = parser_core::sp_string(&*s, r, t);
-    rfc3501_extension::body_ext_mpart(&*s, r, t, left)
+    let c = bodies(s, c, t, left)?;
+    let r = parser_core::sp_string(s, Ok(c), t);
+    rfc3501_extension::body_ext_mpart(s, r, t, left)
 }
 
 // 1*body
 #[cycle(body_circle)]
-fn bodies(s: &[u8], c: u64, t: &mut [u32], left: usize) -> u64
+fn bodies(s: &[u8], c: IResult, t: &mut [u32], left: usize) -> IResult
     requires { Stands 0 s.now c }
     ensures { Reads left (many1 (ref a_body)) s.now c result t.old t.new }
 {
-    if table::FAILED <= c {
-        return c;
-    }
-    let k = table::inside(t.len(), c);
-    let first = body(&*s, table::start(c), &mut t[k..], left);
-    if table::FAILED <= first {
-        return first;
-    }
-    let mut e = first;
-    let mut count: u32 = 1;
-    loop {
-        let r = body(&*s, e, &mut t[k..], left);
-        if table::FAILED <= r {
-            return table::list(t, c, e, count, r);
-        }
-        e = r;
-        count += 1;
-    }
+    let item = |s: &[u8], c: IResult, t: &mut [u32]| -> IResult
+        requires { Stands 0 s.now c }
+        ensures { Reads left (ref a_body) s.now c result t.old t.new }
+    { body(s, c, t, left) };
+    table::items(s, c, t, item, item)
 }
 
 // msg-att-static: "BODYSTRUCTURE" SP body
-pub fn msg_att_body_structure(s: &[u8], c: u64, t: &mut [u32], left: usize) -> u64
+pub fn msg_att_body_structure(s: &[u8], c: IResult, t: &mut [u32], left: usize) -> IResult
     requires { Stands 0 s.now c }
     ensures { Reads left msg_att_body_structure s.now c result t.old t.new }
 {
-    let r = parser_core::tag_no_case(&*s, c, b"BODYSTRUCTURE ");
-    body(&*s, r, t, left)
+    let r = parser_core::tag_no_case(s, c, b"BODYSTRUCTURE ");
+    body(s, r, t, left)
 }

@@ -1,15 +1,14 @@
 -- Where an astring's content lies, by its first byte; and what its check makes of the astring's reading.
 use Prim.Native.Char.{code}
-use Prim.Native.Nat.{ℕ, zero, suc, ◌+◌, ◌-◌, ◌/◌, ◌%◌, ◌≤◌, ◌<◌}
+use Rattle.std.proofs.Common.{Result, Ok, Err, IsOk, ℕ, zero, suc, ◌+◌, ◌-◌, ◌/◌, ◌%◌, ◌≤◌, ◌<◌}
 use mathlib.Core.Path.{◌≡◌, refl, sym, ap, subst, ◌∙◌}
 use mathlib.Core.Bool.{Bool, true, false}
 use mathlib.Core.List.{List, [], ◌∷◌}
-use mathlib.Core.Logic.{⊎_elim}
 use native.Mathlib.Omega.{arith}
 use lib.Dec.{leb}
 use lib.ListN.{length, take, drop, get_or}
 use lib.Seq.{take-take}
-use borrow.Author.Rules.{rules}
+use Rattle.std.proofs.Common.{rules}
 use borrow.Author.Tests.{ne_eqb, leb-true, leb-false}
 use Rattle.grammar.specs.Kinds.{kind_bytes}
 use Rattle.grammar.specs.Forest.{Forest, none, tree, node_of}
@@ -22,10 +21,13 @@ use Rattle.grammar.specs.Rfc5464.{entry_name}
 use Rattle.grammar.specs.Rules.{levels}
 use Rattle.grammar.proofs.On.{at_took}
 use Rattle.grammar.proofs.Stays.{run_stays, levels_stay}
-use Rattle.table.specs.Cursor.{step, behind, place_of, Stops, find, first_failure, refusal}
+use Rattle.table.specs.declared.Cursor.{Cursor}
+use Rattle.table.specs.declared.Failure.{Failure}
+use Rattle.table.specs.declared.Failure.TheVariants as failure
+use Rattle.table.specs.Cursor.{IResult, step, behind, place_of, Stops, find}
 use Rattle.table.specs.Fill.{fill, fill_with}
-use Rattle.table.specs.Promise.{Room, Stands, Went, Goes, Placed}
-use Rattle.table.proofs.Cursors.{step_failed, step_refused, at_place, place_is}
+use Rattle.table.specs.Promise.{Room, Stands, Went, Goes}
+use Rattle.table.proofs.Cursors.{step_failed, went_on, came_back, handed_back}
 use Rattle.table.proofs.Opens.{opens, hungry, ruled_out, cut_off}
 use Rattle.table.proofs.Going.{from, stands_stopped}
 use Rattle.table.proofs.Bounds.{room}
@@ -89,12 +91,11 @@ module _ {s : List ℕ} {at next : ℕ} (here : Room s at) (read : Spelled s at 
       let l = spelled_here in
       let a : leaf_at quotes s at ≡ took next read.node =
       first_of _ _ (second_of _ _ read.is (ruled_out {d = 0} atom l (rw p)).read) (ruled_out {d = 0} literal l (rw p)).read in
-      let ends : Ends quotes s at next = record { is = sym (ap end_of a) } in
-      let less : next < first_failure = omega (arith, here.small, spelled_inside) in
+      let ends : Ends quotes s at (Ok next) = record { is = sym (ap end_of a) } in
       record {
-        low = omega (arith, quotes_low (opened l p) ends less);
+        low = omega (arith, quotes_low (opened l p) ends refl);
         high = omega arith;
-        is = read.is ∙ sym a ∙ quotes_took (opened l p) ends less;
+        is = read.is ∙ sym a ∙ quotes_took (opened l p) ends refl;
       }
 
   pub quoted_low : get_or s at 0 ≡ code "\"" → at + 1 ≤ next - 1
@@ -106,34 +107,38 @@ module _ {s : List ℕ} {at next : ℕ} (here : Room s at) (read : Spelled s at 
   pub quoted_high : next - 1 ≤ length s
   quoted_high = omega (arith, spelled_inside)
 
-  -- behind its header
-  pub content_literal : {h start : ℕ} → get_or s at 0 ≡ code "{" → Headers 0 0 s at h → start ≡ h / 4294967296 → Content s at next start next
-  unfolding run astring string quoted opens first_state in_class
-  content_literal {h} {start} p headers q =
-      let l = spelled_here in
-      let a : literal_at s at ≡ took next read.node =
-      second_of _ _ (second_of _ _ read.is (ruled_out {d = 0} atom l (rw p)).read) (ruled_out {d = 0} quoted l (rw p)).read in
-      let count = h % 4294967296 in
-      let less : h < first_failure = found a (leb first_failure h) refl in
-      let there : start + count ≤ length s = whole a less (leb (start + count) (length s)) refl in
-      let e = content_there here headers less q refl there in
-      let z : next ≡ start + count = same_end a e in
-      record {
-        low = omega arith;
-        high = omega arith;
-        is = read.is ∙ sym a ∙ e ∙ ap (λ (k : ℕ). took k (node_of kind_bytes start k)) (sym z);
-      }
-    where
-      found : literal_at s at ≡ took next read.node → (b : Bool) → leb first_failure h ≡ b → h < first_failure
-      found a true w = ⊎_elim (λ x. no_more a x.1) (λ x. no_refused a x.1) (header_fails here headers (leb-true first_failure h w))
-      found a false w = leb-false first_failure h w
+  -- behind its header, which is one
+  module _ (p : get_or s at 0 ≡ code "{") {h : Result (ℕ × ℕ) Failure} (headers : Headers 0 0 s at h) where
+    found_literal : literal_at s at ≡ took next read.node
+    unfolding run astring string quoted opens first_state in_class
+    found_literal =
+        let l = spelled_here in
+        second_of _ _ (second_of _ _ read.is (ruled_out {d = 0} atom l (rw p)).read) (ruled_out {d = 0} quoted l (rw p)).read
 
-      whole : literal_at s at ≡ took next read.node → h < first_failure → (b : Bool) → leb (start + h % 4294967296) (length s) ≡ b → start + h % 4294967296 ≤ length s
-      whole a less true w = leb-true (start + h % 4294967296) (length s) w
-      whole a less false w = no_more a (content_missing here headers less q refl (leb-false (start + h % 4294967296) (length s) w))
+    pub header_ok : IsOk h
+    header_ok = go h refl
+      where
+        go : (x : Result (ℕ × ℕ) Failure) → h ≡ x → IsOk x
+        go (Ok q) e = refl
+        go (Err f) e = header_fails here headers e (λ w z. no_more found_literal w) (λ w z. no_refused found_literal w)
 
-  pub literal_low : {h start : ℕ} → get_or s at 0 ≡ code "{" → Headers 0 0 s at h → start ≡ h / 4294967296 → start ≤ next
-  literal_low p headers q = (content_literal p headers q).low
+    pub content_literal : {p : ℕ × ℕ} → h ≡ Ok p → Content s at next p.0 next
+    content_literal {p} q =
+        let there : p.0 + p.1 ≤ length s = whole (leb (p.0 + p.1) (length s)) refl in
+        let e = content_there here headers q there in
+        let z : next ≡ p.0 + p.1 = same_end found_literal e in
+        record {
+          low = omega arith;
+          high = omega arith;
+          is = read.is ∙ sym found_literal ∙ e ∙ ap (λ (k : ℕ). took k (node_of kind_bytes p.0 k)) (sym z);
+        }
+      where
+        whole : (b : Bool) → leb (p.0 + p.1) (length s) ≡ b → p.0 + p.1 ≤ length s
+        whole true w = leb-true (p.0 + p.1) (length s) w
+        whole false w = no_more found_literal (content_missing here headers q (leb-false (p.0 + p.1) (length s) w))
+
+    pub literal_low : {p : ℕ × ℕ} → h ≡ Ok p → p.0 ≤ next
+    literal_low q = (content_literal q).low
 
   -- all of it
   pub content_atom : (get_or s at 0 ≡ code "\"" → ⊥) → (get_or s at 0 ≡ code "{" → ⊥) → Content s at next at next
@@ -178,59 +183,55 @@ content_checked {s} {at} {next} {start} {end} {x} content q = record { is = λ f
 
 -- the reader -------------------------------------------------------------------------------------------------------------------
 
-module _ {s : List ℕ} {c r : ℕ} {t t' : List ℕ} (x : Goes 0 astring s c r t t') where
+module _ {s : List ℕ} {c r : IResult} {at : Cursor} {t t' : List ℕ} (going : c ≡ Ok at) (stands : Stands 0 s c) (x : Goes 0 astring s (Ok at) r t t') where
+  here_x : Went at.nodes (find 0 astring s at.place) (λ u. fill 0 astring s at.place u) r t t'
+  here_x = x.went at.place at.nodes refl
+
   -- no astring
-  pub entry_stops : first_failure ≤ r → Goes 0 entry_name s c r t t'
+  pub entry_stops : {q : IResult} {f : Failure} → r ≡ Err f → q ≡ Err f → Goes 0 entry_name s c q t t'
   unfolding run fill_with entry_name
-  entry_stops h = record { stopped = x.stopped; went = λ at n p. go at n (find 0 astring s at) (x.went at n p); stands = x.stands }
+  entry_stops {q} {f} h back =
+      from going stands (subst (λ (k : IResult). Went at.nodes (find 0 entry_name s at.place) (λ u. fill 0 entry_name s at.place u) k t t') (h ∙ sym back) (go (find 0 astring s at.place) here_x))
+      (subst (λ (k : IResult). Stands 0 s k) (h ∙ sym back) x.stands)
     where
-      go : (at n : ℕ) (o : Out) → Went n o (λ u. fill 0 astring s at u) r t t'
-          → Went n (followed_by o (λ e f. branch (check_entry_name (named f (take e s))) (λ u. took e f) (λ u. refused))) (λ u. fill 0 astring s at u) r t t'
-      go at n (took e f) w = absurd (subst Stops w.read (step_failed r h))
-      go at n (more k) w = w
-      go at n refused w = w
-      go at n deep w = w
+      go : (o : Out) → Went at.nodes o (λ u. fill 0 astring s at.place u) r t t'
+          → Went at.nodes (followed_by o (λ e f. branch (check_entry_name (named f (take e s))) (λ u. took e f) (λ u. refused))) (λ u. fill 0 astring s at.place u) r t t'
+      go (took e g) w = absurd (subst Stops w.read (step_failed h))
+      go (more k) w = w
+      go refused w = w
+      go deep w = w
 
-  module _ {at next : ℕ} (on : r < first_failure) (stands : Stands 0 s c) (placed : Placed c at) (ended : Placed r next) where
-    going : c < first_failure
-    going = go (leb first_failure c) refl
+  pub entry_room : Room s at.place
+  entry_room = room going stands
+
+  module _ {next : Cursor} (on : r ≡ Ok next) where
+    pub entry_spelled : Spelled s at.place next.place
+    entry_spelled = go (find 0 astring s at.place) refl (ap step (sym on) ∙ here_x.read)
       where
-        go : (b : Bool) → leb first_failure c ≡ b → c < first_failure
-        go true q = absurd (omega (arith, (x.stopped (step_failed c (leb-true first_failure c q))).0, leb-true first_failure c q))
-        go false q = leb-false first_failure c q
+        go : (o : Out) → find 0 astring s at.place ≡ o → step (Ok next) ≡ behind at.nodes o → Spelled s at.place next.place
+        go (took e f) q p = record { node = f; is = q ∙ ap (λ (k : ℕ). took k f) (sym (ap place_of p)) }
+        go (more k) q p = absurd (subst Stops (sym p) tt)
+        go refused q p = absurd (subst Stops (sym p) tt)
+        go deep q p = absurd (subst Stops (sym p) tt)
 
-    pub entry_room : Room s at
-    entry_room = room going stands placed
-
-    pub entry_spelled : Spelled s at next
-    entry_spelled = go _ (find 0 astring s at) refl (x.went at _ (at_place going placed)).read
-      where
-        go : (n : ℕ) (o : Out) → find 0 astring s at ≡ o → step r ≡ behind n o → Spelled s at next
-        go n (took e f) q p = record { node = f; is = q ∙ ap (λ (k : ℕ). took k f) (sym (place_is on ended ∙ ap place_of p)) }
-        go n (more k) q p = absurd (subst Stops (sym p ∙ at_place on ended) tt)
-        go n refused q p = absurd (subst Stops (sym p ∙ at_place on ended) tt)
-        go n deep q p = absurd (subst Stops (sym p ∙ at_place on ended) tt)
-
-    module _ {b : Bool} (checked : Checked s at next b) where
-      decided : {b' : Bool} → b ≡ b' → find 0 entry_name s at ≡ branch b' (λ u. took next entry_spelled.node) (λ u. refused)
+    module _ {b : Bool} (checked : Checked s at.place next.place b) where
+      decided : {b' : Bool} → b ≡ b' → find 0 entry_name s at.place ≡ branch b' (λ u. took next.place entry_spelled.node) (λ u. refused)
       unfolding run entry_name
       decided q = rw (entry_spelled.is, ← checked.is entry_spelled.node entry_spelled.is, q)
 
-      pub entry_taken : b ≡ true → Goes 0 entry_name s c r t t'
+      pub entry_taken : b ≡ true → Goes 0 entry_name s c (Ok next) t t'
       unfolding fill_with entry_name
       entry_taken q =
-          from going stands placed (λ n p.
-          let w = x.went at n p in
-          record { read = w.read ∙ ap (behind n) (entry_spelled.is ∙ sym (decided q)); wrote = w.wrote }) x.stands
+          from going stands (record { read = ap step (sym on) ∙ here_x.read ∙ ap (behind at.nodes) (entry_spelled.is ∙ sym (decided q)); wrote = here_x.wrote })
+          (subst (λ (k : IResult). Stands 0 s k) on x.stands)
 
-      pub entry_refused : b ≡ false → Goes 0 entry_name s c refusal t t'
+      pub entry_refused : b ≡ false → Goes 0 entry_name s c (Err failure.Refused) t t'
       unfolding fill_with entry_name
       entry_refused q =
-          from going stands placed (λ n p.
-          record { read = step_refused ∙ ap (behind n) (sym (decided q)); wrote = (x.went at n p).wrote })
-          (stands_stopped s refusal stands.small (subst Stops (sym step_refused) tt))
+          from going stands (record { read = ap (behind at.nodes) (sym (decided q)); wrote = here_x.wrote })
+          (stands_stopped s (Err failure.Refused) stands.small tt)
 
 -- what `search` is to know
-pub ruleset contents = (spelled_here, spelled_on, spelled_inside, quoted_low, quoted_some, quoted_high, literal_low, content_quoted, content_literal, content_atom, content_checked, rules)
+pub ruleset contents = (spelled_here, spelled_on, spelled_inside, quoted_low, quoted_some, quoted_high, header_ok, literal_low, content_quoted, content_literal, content_atom, content_checked, rules)
 
-pub ruleset entries = (entry_stops, entry_room, entry_spelled, entry_taken, entry_refused, rules)
+pub ruleset entries = (entry_stops, entry_room, entry_spelled, entry_taken, entry_refused, went_on, came_back, handed_back, rules)

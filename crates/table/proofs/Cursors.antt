@@ -1,105 +1,61 @@
--- What a cursor means, by its number.
-use Prim.Native.Nat.{ℕ, ◌+◌, ◌-◌, ◌*◌, ◌/◌, ◌%◌, ◌≤◌, ◌<◌}
-use mathlib.Core.Path.{◌≡◌, refl, sym, ap, subst, ◌∙◌}
-use native.Mathlib.Omega.{arith}
-use lib.Dec.{leb, eqb}
-use borrow.Author.Tests.{le-leb, lt-leb, leb-true, leb-false, ne_eqb, eqb-true}
-use mathlib.Core.Bool.{Bool, true, false}
-use Rattle.grammar.specs.Out.{branch}
-use Rattle.table.specs.Cursor.{Took, More, Refused, Deep, step, number_of, first_failure, refusal, too_deep, place_of, nodes_of, Stops}
-use Rattle.table.specs.Promise.{Placed, Counted}
+-- What an answer means.
+use Rattle.std.proofs.Common.{ℕ, ◌≡◌, Result, Ok, Err}
+use Rattle.std.specs.Result.{result_from_control_flow}
+use Rattle.std.proofs.Common.{Continue, Break, IsErr, IsErrAnd}
+use mathlib.Core.Path.{refl, sym, ap, subst, ◌∙◌}
+use Rattle.table.specs.declared.Cursor.{Cursor}
+use Rattle.table.specs.declared.Failure.{Failure}
+use Rattle.table.specs.declared.Failure.TheVariants as failure
+use Rattle.table.specs.Cursor.{IResult, Step, Took, More, Refused, Deep, step, Stops}
 
--- no failure
-pub step_took : (c : ℕ) → c < first_failure → step c ≡ Took (c % 4294967296) (c / 4294967296)
-unfolding step
-step_took c h = rw (lt-leb first_failure c h)
+-- the answer that has a meaning
+abbrev pub answer_of : Step → IResult
+answer_of (Took at n) = Ok (record { place = at; nodes = n })
+answer_of (More wanted) = Err (failure.Unfinished wanted)
+answer_of Refused = Err failure.Refused
+answer_of Deep = Err failure.TooDeep
 
--- a failure
-fails : (c : ℕ) (x y : Bool) → Stops (branch x (λ u. Refused) (λ u. branch y (λ u. Deep) (λ u. More (c - first_failure))))
-fails c true y = tt
-fails c false true = tt
-fails c false false = tt
-
-pub step_failed : (c : ℕ) → first_failure ≤ c → Stops (step c)
-unfolding step
-step_failed c h = rw (le-leb first_failure c h) (fails c (eqb c refusal) (eqb c too_deep))
-
--- a cursor that does not stop is no failure
-pub going_on : (c at n : ℕ) → step c ≡ Took at n → c < first_failure
-unfolding step
-going_on c at n p = go (leb first_failure c) refl
-  where
-    go : (x : Bool) → leb first_failure c ≡ x → c < first_failure
-    go true e = absurd (subst Stops p (step_failed c (leb-true first_failure c e)))
-    go false e = leb-false first_failure c e
-
-pub took_is : (c : ℕ) {at n : ℕ} → step c ≡ Took at n → (at ≡ c % 4294967296) × (n ≡ c / 4294967296)
-took_is c {at} {n} p = let z : Took at n ≡ Took (c % 4294967296) (c / 4294967296) = sym p ∙ step_took c (going_on c at n p) in (cc, cc)
-
--- a place and a number of nodes, packed
-pub packed : (c at n : ℕ) → c ≡ at + n * 4294967296 → at < 4294967296 → n < 2147483648 → step c ≡ Took at n
-packed c at n e p q =
-    let a : c % 4294967296 ≡ at = omega arith in
-    let b : c / 4294967296 ≡ n = omega arith in
-    step_took c (omega arith) ∙ rw (a, b)
-
--- the failures
-pub step_short : step first_failure ≡ More 0
-unfolding step
-step_short = refl
-
-pub step_refused : step refusal ≡ Refused
-unfolding step
-step_refused = refl
-
-pub step_deep : step too_deep ≡ Deep
-unfolding step
-step_deep = refl
-
-pub step_more : (w : ℕ) → w ≤ 4294967296 → step (first_failure + w) ≡ More w
-unfolding step
-step_more w h =
-    let e : first_failure + w - first_failure ≡ w = omega arith in
-    rw (le-leb first_failure (first_failure + w) (omega arith), ne_eqb (first_failure + w) refusal (λ p. omega arith), ne_eqb (first_failure + w) too_deep (λ p. omega arith), e)
-
--- only one cursor means a refusal
-pub refused_is : (q : ℕ) → step q ≡ Refused → q ≡ refusal
-unfolding step
-refused_is q p = go (leb first_failure q) (eqb q refusal) (eqb q too_deep) refl p
-  where
-    go : (x y z : Bool) → eqb q refusal ≡ y
-        → branch x (λ u. branch y (λ u. Refused) (λ u. branch z (λ u. Deep) (λ u. More (q - first_failure)))) (λ u. Took (q % 4294967296) (q / 4294967296)) ≡ Refused
-        → q ≡ refusal
-    go true true z e p = eqb-true q refusal e
-    go true false true e p = let w : ◌≡◌ {A = ℕ} 0 1 = cc in absurd (omega arith)
-    go true false false e p = let w : ◌≡◌ {A = ℕ} 0 1 = cc in absurd (omega arith)
-    go false y z e p = let w : ◌≡◌ {A = ℕ} 0 1 = cc in absurd (omega arith)
-
--- a cursor is the number of its meaning
-pub number_step : (c : ℕ) → c ≡ number_of (step c)
-unfolding step
-number_step c = go (leb first_failure c) (eqb c refusal) (eqb c too_deep) refl refl refl
-  where
-    go : (x y z : Bool) → leb first_failure c ≡ x → eqb c refusal ≡ y → eqb c too_deep ≡ z
-        → c ≡ number_of (branch x (λ u. branch y (λ u. Refused) (λ u. branch z (λ u. Deep) (λ u. More (c - first_failure)))) (λ u. Took (c % 4294967296) (c / 4294967296)))
-    go true true z p q r = eqb-true c refusal q
-    go true false true p q r = eqb-true c too_deep r
-    go true false false p q r = let l = leb-true first_failure c p in omega arith
-    go false y z p q r = omega arith
+pub answer_step : (c : IResult) → c ≡ answer_of (step c)
+answer_step (Ok c) = refl
+answer_step (Err (failure.Unfinished wanted)) = refl
+answer_step (Err failure.Refused) = refl
+answer_step (Err failure.TooDeep) = refl
 
 -- so two with one meaning are equal
-pub one_meaning : (c q : ℕ) → step c ≡ step q → c ≡ q
-one_meaning c q p = number_step c ∙ ap number_of p ∙ sym (number_step q)
+pub one_meaning : (c q : IResult) → step c ≡ step q → c ≡ q
+one_meaning c q p = answer_step c ∙ ap answer_of p ∙ sym (answer_step q)
 
--- where a cursor's place or its number of nodes is known
-pub place_is : {c at : ℕ} → c < first_failure → Placed c at → at ≡ place_of (step c)
-place_is {c} h p = rw (step_took c h) p.is
+-- one that a reading ended with
+pub failed_stops : (f : Failure) → Stops (step (Err f))
+failed_stops (failure.Unfinished wanted) = tt
+failed_stops failure.Refused = tt
+failed_stops failure.TooDeep = tt
 
-pub nodes_is : {c n : ℕ} → c < first_failure → Counted c n → n ≡ nodes_of (step c)
-nodes_is {c} h p = rw (step_took c h) p.is
+-- a place and a number of nodes are no failure
+pub going_on : (c : IResult) {at n : ℕ} → step c ≡ Took at n → c ≡ Ok (record { place = at; nodes = n })
+going_on c p = answer_step c ∙ ap answer_of p
 
-pub stood : {c at n : ℕ} → c < first_failure → Placed c at → Counted c n → step c ≡ Took at n
-stood {c} h p q = step_took c h ∙ rw (← p.is, ← q.is)
+pub refused_is : (q : IResult) → step q ≡ Refused → q ≡ Err failure.Refused
+refused_is q p = answer_step q ∙ ap answer_of p
 
-pub at_place : {c at : ℕ} → c < first_failure → Placed c at → step c ≡ Took at (nodes_of (step c))
-at_place {c} h p = rw (step_took c h) (ap (λ (x : ℕ). Took x (c / 4294967296)) (sym p.is))
+-- where a cursor is
+pub took_is : {c : IResult} {k : Cursor} {at n : ℕ} → c ≡ Ok k → step c ≡ Took at n → (at ≡ k.place) × (n ≡ k.nodes)
+took_is {c} {k} {at} {n} e p = let z : Took at n ≡ Took k.place k.nodes = sym p ∙ ap step e in (cc, cc)
+
+pub step_took : {c : IResult} {k : Cursor} → c ≡ Ok k → step c ≡ Took k.place k.nodes
+step_took e = ap step e
+
+pub step_failed : {c : IResult} {f : Failure} → c ≡ Err f → Stops (step c)
+step_failed {f = f} e = subst (λ (x : IResult). Stops (step x)) (sym e) (failed_stops f)
+
+-- what `?` goes on with
+pub went_on : {T E : Type 0} {c : Result T E} {b : _} {k : T} → c ≡ result_from_control_flow b → b ≡ Continue k → c ≡ Ok k
+went_on e p = e ∙ ap result_from_control_flow p
+
+-- what `?` returns with
+pub came_back : {T E : Type 0} {c : Result T E} {b : _} {x : _} → c ≡ result_from_control_flow b → b ≡ Break x → c ≡ Err x.0
+came_back e p = e ∙ ap result_from_control_flow p
+
+pub handed_back : {T E : Type 0} {q : Result T E} {f : E} → IsErr q × IsErrAnd q (λ e. e ≡ f) → q ≡ Err f
+handed_back {q = Ok x} h = absurd h.1
+handed_back {q = Err e} h = ap Err h.1

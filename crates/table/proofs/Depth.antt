@@ -1,5 +1,5 @@
 -- A grammar that goes no level deeper reads and writes the same with any number of levels.
-use Prim.Native.Nat.{ℕ, suc}
+use Rattle.std.proofs.Common.{ℕ, suc}
 use mathlib.Core.Path.{◌≡◌, refl, ap, ◌∙◌, fun_ext}
 use mathlib.Core.Bool.{Bool, true, false, ◌&&◌}
 use mathlib.Core.List.{List}
@@ -11,7 +11,7 @@ use Rattle.grammar.specs.EntryName.{check_entry_name}
 use Rattle.grammar.specs.Grammar.{act, Inner, G, leaf, literal, nothing, mark, seq, alt, star, does, entry, ref, Reader, named, run}
 use Rattle.grammar.specs.Rules.{levels}
 use Rattle.grammar.proofs.Tests.{T_left, T_right}
-use Rattle.table.specs.Cursor.{behind}
+use Rattle.table.specs.Cursor.{IResult, behind}
 use Rattle.table.specs.Table.{as_step, then_table, else_table, onward}
 use Rattle.table.specs.Fill.{Filler, act_table, repeat_table, fill_with, fill_levels}
 use Rattle.table.specs.Promise.{Goes, Skims}
@@ -90,7 +90,7 @@ module _ (i j : Inner → Reader) where
     fill_plain (ref n) p s at t = absurd p
 
 -- so a reader that serves no levels serves any number
-pub at_depth : (d : ℕ) {g : G} {s : List ℕ} {c q : ℕ} {t t' : List ℕ} → T (plain g) → Goes 0 g s c q t t' → Goes d g s c q t t'
+pub at_depth : (d : ℕ) {g : G} {s : List ℕ} {c q : IResult} {t t' : List ℕ} → T (plain g) → Goes 0 g s c q t t' → Goes d g s c q t t'
 at_depth d {g} {s} {c} {q} {t} {t'} m x = record {
   stopped = x.stopped;
   went = λ at n p.
@@ -103,5 +103,5 @@ at_depth d {g} {s} {c} {q} {t} {t'} m x = record {
 }
 
 -- and one that is lent no table
-pub skims_at : (d : ℕ) {g : G} {s : List ℕ} {c q : ℕ} (t : List ℕ) → T (plain g) → Skims g s c q → Goes d g s c q t t
+pub skims_at : (d : ℕ) {g : G} {s : List ℕ} {c q : IResult} (t : List ℕ) → T (plain g) → Skims g s c q → Goes d g s c q t t
 skims_at d t m x = at_depth d m (x.on t)

@@ -6,6 +6,7 @@ pub mod Going
 pub mod Puts
 pub mod Bounds
 pub mod Structure
+pub mod Listable
 pub mod Lists
 pub mod Words
 pub mod Whole
@@ -13,4 +14,6 @@ pub mod Depth
 pub mod Determined
 pub mod Opens
 pub mod Levels
+pub mod Passed
 pub mod Search
+pub mod Lines

@@ -1,10 +1,15 @@
--- Cursors: one number that stands for an answer. Below 2^63 it is a place and the nodes so far, place + nodes * 2^32;
--- from 2^63 on it is a failure.
-use Rattle.std.specs.Prelude.{ℕ, ◌+◌, ◌-◌, ◌*◌, ◌/◌, ◌%◌, leb, eqb}
+-- What a reader answers: where it is and the nodes so far, or how the reading ended.
+use Rattle.std.specs.Prelude.{ℕ, ◌+◌, Result, Ok, Err}
 use Rattle.grammar.specs.Forest.{size}
-use Rattle.grammar.specs.Out.{Out, took, more, refused, deep, branch}
+use Rattle.grammar.specs.Out.{Out, took, more, refused, deep}
 use Rattle.grammar.specs.Grammar.{G, Reader, run}
 use Rattle.grammar.specs.Rules.{levels}
+use Rattle.table.specs.declared.Cursor.{Cursor}
+use Rattle.table.specs.declared.Failure.{Failure}
+use Rattle.table.specs.declared.Failure.TheVariants as failure
+
+abbrev pub IResult : Type 0
+IResult = Result Cursor Failure
 
 -- what reading a rule answers: where it ended and the nodes so far; unfinished, with the bytes that are missing of a
 -- literal's content; not the grammar; too deep
@@ -13,29 +18,16 @@ pub data Step : Type 0 where
   More : ℕ → Step
   Refused Deep : Step
 
--- 2^63: the first failure, unfinished with nothing wanted; one more for each byte wanted
-abbrev pub first_failure : ℕ
-first_failure = 9223372036854775808
+-- THE MEANING of an answer. Two with one meaning are equal (proofs/Cursors.antt, `one_meaning`).
+abbrev pub step : IResult → Step
+step (Ok c) = Took c.place c.nodes
+step (Err (failure.Unfinished wanted)) = More wanted
+step (Err failure.Refused) = Refused
+step (Err failure.TooDeep) = Deep
 
-abbrev pub refusal : ℕ
-refusal = 13835058055282163712
-
-abbrev pub too_deep : ℕ
-too_deep = 13835058055282163713
-
-abbrev pub failure : ℕ → Step
-failure c = branch (eqb c refusal) (λ u. Refused) (λ u. branch (eqb c too_deep) (λ u. Deep) (λ u. More (c - first_failure)))
-
--- THE MEANING of a cursor. Two cursors with one meaning are equal (proofs/Cursors.antt, `one_meaning`).
-unfoldable pub step : ℕ → Step
-step c = branch (leb first_failure c) (λ u. failure c) (λ u. Took (c % 4294967296) (c / 4294967296))
-
--- the number that stands for an answer
-abbrev pub number_of : Step → ℕ
-number_of (Took at n) = at + n * 4294967296
-number_of (More wanted) = first_failure + wanted
-number_of Refused = refusal
-number_of Deep = too_deep
+-- where the reading of a buffer begins
+abbrev pub first : IResult
+first = Ok (record { place = 0; nodes = 0 })
 
 -- what the code answers where the definition finds o, behind n nodes
 abbrev pub behind : ℕ → Out → Step

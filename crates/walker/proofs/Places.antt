@@ -1,28 +1,29 @@
--- What the walk's functions find, as laws that their proofs cite; true of any table. (Every promise of this crate is an equation,
+-- What the walk's functions find, as laws; true of any table. (Every promise of this crate is an equation,
 -- so that any two results which it allows are equal: `one_result`, crates/grammar/proofs/Tests.antt.)
-use Prim.Native.Nat.{ℕ, zero, suc, ◌+◌, ◌-◌, ◌≤◌, ◌<◌}
+use Prim.Native.Nat.{ℕ, zero, suc, ◌+◌, ◌≤◌, ◌<◌}
 use mathlib.Core.Path.{◌≡◌, refl, sym, ◌∙◌}
 use mathlib.Core.Bool.{◌&&◌}
 use mathlib.Core.List.{List}
 use native.Mathlib.Omega.{arith}
 use lib.Dec.{T, leb, eqb, leb→le, eqb→eq}
 use borrow.Author.Tests.{le-ltb, lt-ltb, le-leb, eq-eqb, ne_eqb}
+use Rattle.std.specs.Prelude.{Some, None, Ok, Err}
 use Rattle.grammar.specs.Reading.{room, kind_word, a_word, b_word, nodes_word}
 use Rattle.grammar.proofs.Tests.{branch_ind, T_left, T_right}
-use Rattle.walker.specs.declared.Node.TheVariants.{Words, Outside}
-use Rattle.walker.specs.declared.Place.{Place}
-use Rattle.walker.specs.declared.Place.TheVariants.{At, Nothing, Wrong}
-use Rattle.walker.specs.Walk.{node_at, kind_at, then_place, proper_tree, tree_end}
+use Rattle.walker.specs.declared.NoTree.{NoTree}
+use Rattle.walker.specs.declared.NoTree.TheVariants.{Nothing, Wrong}
+use Rattle.walker.specs.Walk.{Place, node_at, kind_at, then_place, proper_tree, tree_end}
 use Rattle.walker.specs.Walk.{tree_at, end_of, first_child, next_sibling, nth_tree}
 
 -- a node's words ----------------------------------------------------------------------------------------------------
 
 module _ (t : List ℕ) (at : ℕ) where
-  pub node_outside : room t ≤ at → Outside ≡ node_at t at
+  pub node_outside : room t ≤ at → None ≡ node_at t at
   unfolding node_at
   node_outside h = simp (le-ltb at (room t) h)
 
-  pub node_inside : at < room t → Words (kind_word t at) (a_word t at) (b_word t at) (nodes_word t at) ≡ node_at t at
+  pub node_inside : at < room t
+      → Some (record { kind = kind_word t at; a = a_word t at; b = b_word t at; nodes = nodes_word t at }) ≡ node_at t at
   unfolding node_at
   node_inside h = simp (lt-ltb at (room t) h)
 
@@ -36,28 +37,24 @@ module _ (t : List ℕ) (at : ℕ) where
 
 -- places that are found and that are not ----------------------------------------------------------------------------
 
--- what the `else` of `let Place::At(..) = p else ..` is told
+-- what is no place
 abbrev pub NotAt : Place → Type 0
-NotAt p = (at : ℕ) → p ≡ At at → ⊥
+NotAt p = (at : ℕ) → p ≡ Ok at → ⊥
 
 -- there nothing goes on
 pub halts : {p found : Place} (go : ℕ → Place) → p ≡ found → NotAt p → p ≡ then_place found go
 halts {p} go same not_at = rw (← same) (stays p not_at)
   where
     stays : (p : Place) → NotAt p → p ≡ then_place p go
-    stays (At at) not_at = absurd (not_at at refl)
-    stays Nothing not_at = refl
-    stays Wrong not_at = refl
+    stays (Ok at) not_at = absurd (not_at at refl)
+    stays (Err why) not_at = refl
 
 -- and from a place it does
-pub goes_on : {p found : Place} {at : ℕ} (go : ℕ → Place) → p ≡ found → p ≡ At at → then_place found go ≡ go at
-goes_on go same is = rw (← same, is)
+pub goes_on : {p found : Place} {at : ℕ} (go : ℕ → Place) → p ≡ found → p ≡ Ok at → then_place found go ≡ go at
+goes_on go same is = rw (← same, is) refl
 
-nothing_at : {R : Type 0} {at : ℕ} → Nothing ≡ At at → R
-nothing_at q = let z : ◌≡◌ {A = ℕ} 0 1 = cc in absurd (omega arith)
-
-wrong_at : {R : Type 0} {at : ℕ} → Wrong ≡ At at → R
-wrong_at q = let z : ◌≡◌ {A = ℕ} 0 1 = cc in absurd (omega arith)
+none_at : {R : Type 0} {why : NoTree} {at : ℕ} → ◌≡◌ {A = Place} (Err why) (Ok at) → R
+none_at q = let z : ◌≡◌ {A = ℕ} 0 1 = cc in absurd (omega arith)
 
 -- trees -------------------------------------------------------------------------------------------------------------
 
@@ -83,7 +80,7 @@ module _ (t : List ℕ) (at limit : ℕ) where
       }
 
   -- such a tree's end is found
-  pub end_found : {end : ℕ} → Tree t at end limit → At end ≡ tree_end t at limit
+  pub end_found : {end : ℕ} → Tree t at end limit → Ok end ≡ tree_end t at limit
   unfolding tree_end
   end_found {end} x =
       let some = x.some_nodes in
@@ -98,55 +95,54 @@ module _ (t : List ℕ) (at limit : ℕ) where
       )
 
   -- and only of such a tree
-  pub found_tree : {p : Place} {end : ℕ} → p ≡ tree_end t at limit → p ≡ At end → Tree t at end limit
+  pub found_tree : {p : Place} {end : ℕ} → p ≡ tree_end t at limit → p ≡ Ok end → Tree t at end limit
   unfolding tree_end
   found_tree {p} {end} is q =
-      branch_ind (λ o. o ≡ At end → Tree t at end limit) (eqb at limit) _ _ (λ u r. nothing_at r)
-      (λ u. branch_ind (λ o. o ≡ At end → Tree t at end limit) (proper_tree t at limit) _ _ (λ v r. is_end (tested v) r)
-      (λ v r. wrong_at r)) (sym is ∙ q)
+      branch_ind (λ (o : Place). o ≡ Ok end → Tree t at end limit) (eqb at limit) _ _ (λ u r. none_at r)
+      (λ u. branch_ind (λ (o : Place). o ≡ Ok end → Tree t at end limit) (proper_tree t at limit) _ _ (λ v r. is_end (tested v) r)
+      (λ v r. none_at r)) (sym is ∙ q)
     where
-      is_end : {e : ℕ} → Tree t at e limit → At e ≡ At end → Tree t at end limit
+      is_end : {e : ℕ} → Tree t at e limit → ◌≡◌ {A = Place} (Ok e) (Ok end) → Tree t at end limit
       is_end {e = e} x r = let z : e ≡ end = cc in rw z at x
 
   -- at the limit there is nothing
-  pub limit_reached : at ≡ limit → Nothing ≡ tree_end t at limit
+  pub limit_reached : at ≡ limit → Err Nothing ≡ tree_end t at limit
   unfolding tree_end
   limit_reached e = simp (eq-eqb at limit e)
 
   -- elsewhere, where there is no such tree, the table is wrong
-  pub no_tree : (at ≡ limit → ⊥) → (Tree t at (at + nodes_word t at) limit → ⊥) → Wrong ≡ tree_end t at limit
+  pub no_tree : (at ≡ limit → ⊥) → (Tree t at (at + nodes_word t at) limit → ⊥) → Err Wrong ≡ tree_end t at limit
   unfolding tree_end
   no_tree not_limit not_tree =
-      branch_ind (λ p. Wrong ≡ p) (eqb at limit) _ _ (λ u. absurd (not_limit (eqb→eq at limit u)))
-      (λ u. branch_ind (λ p. Wrong ≡ p) (proper_tree t at limit) _ _ (λ v. absurd (not_tree (tested v))) (λ v. refl))
+      branch_ind (λ (p : Place). Err Wrong ≡ p) (eqb at limit) _ _ (λ u. absurd (not_limit (eqb→eq at limit u)))
+      (λ u. branch_ind (λ (p : Place). Err Wrong ≡ p) (proper_tree t at limit) _ _ (λ v. absurd (not_tree (tested v))) (λ v. refl))
 
 -- FORWARD: on any table whatever it holds, a place found lies further on and before the limit, so every walk ends ------
 
 -- what goes on to a place came from one
 record Came (p : Place) (go : ℕ → Place) (place : ℕ) : Type 0 where
   from : ℕ
-  is : p ≡ At from
-  goes : go from ≡ At place
+  is : p ≡ Ok from
+  goes : go from ≡ Ok place
 
-came : (p : Place) (go : ℕ → Place) {place : ℕ} → then_place p go ≡ At place → Came p go place
-came (At from) go q = record { from = from; is = refl; goes = q }
-came Nothing go q = nothing_at q
-came Wrong go q = wrong_at q
+came : (p : Place) (go : ℕ → Place) {place : ℕ} → then_place p go ≡ Ok place → Came p go place
+came (Ok from) go q = record { from = from; is = refl; goes = q }
+came (Err why) go q = none_at q
 
 -- between two places
 pub record Between (low place limit : ℕ) : Type 0 where
   pub further : low ≤ place
   pub before : place < limit
 
-pub tree_forward : (t : List ℕ) (at limit : ℕ) {place : ℕ} → tree_at t at limit ≡ At place → Between at place limit
+pub tree_forward : (t : List ℕ) (at limit : ℕ) {place : ℕ} → tree_at t at limit ≡ Ok place → Between at place limit
 unfolding tree_at
 tree_forward t at limit {place} q =
-    let c = came (tree_end t at limit) (λ end. At at) q in
+    let c = came (tree_end t at limit) (λ end. Ok at) q in
     let x = found_tree t at limit refl c.is in
     let same = c.goes in
     let z : at ≡ place = cc in record { further = omega arith; before = omega (arith, x.some_nodes, x.ends, x.within) }
 
-pub child_forward : (t : List ℕ) (at : ℕ) {place : ℕ} → first_child t at ≡ At place → Between (at + 1) place (room t)
+pub child_forward : (t : List ℕ) (at : ℕ) {place : ℕ} → first_child t at ≡ Ok place → Between (at + 1) place (room t)
 unfolding first_child
 child_forward t at q =
     let c = came (end_of t at) (λ end. tree_at t (at + 1) end) q in
@@ -154,7 +150,7 @@ child_forward t at q =
     let y = tree_forward t (at + 1) c.from c.goes in
     record { further = y.further; before = omega (arith, x.within, y.before) }
 
-pub sibling_forward : (t : List ℕ) (at limit : ℕ) {place : ℕ} → next_sibling t at limit ≡ At place
+pub sibling_forward : (t : List ℕ) (at limit : ℕ) {place : ℕ} → next_sibling t at limit ≡ Ok place
     → Between (at + 1) place limit
 unfolding next_sibling
 sibling_forward t at limit q =
@@ -166,12 +162,10 @@ sibling_forward t at limit q =
 -- counting trees ----------------------------------------------------------------------------------------------------
 
 -- one tree less from the next one on
-pub nth_next : (n : ℕ) (t : List ℕ) (at limit : ℕ) {next : ℕ} → 0 < n → At next ≡ tree_end t at limit
-    → nth_tree (n - 1) t next limit ≡ nth_tree n t at limit
+pub nth_next : {n m : ℕ} (t : List ℕ) (at limit : ℕ) {next : ℕ} → n ≡ suc m → Ok next ≡ tree_end t at limit
+    → nth_tree m t next limit ≡ nth_tree n t at limit
 unfolding nth_tree
-nth_next zero t at limit h e = absurd (omega arith)
-nth_next (suc n) t at limit {next} h e =
-    let z : suc n - 1 ≡ n = omega arith in rw (z, ← e)
+nth_next t at limit less e = rw (less, ← e) refl
 
 -- with no end of the first there is no later one
 pub nth_halts : (n : ℕ) (t : List ℕ) (at limit : ℕ) {p : Place} → 0 < n → p ≡ tree_end t at limit → NotAt p

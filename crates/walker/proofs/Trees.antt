@@ -6,16 +6,14 @@ use native.Mathlib.Omega.{arith}
 use lib.ListN.{length, drop, get_or, length-append}
 use lib.Dec.{leb}
 use lib.Seq.{drop_at, drop-drop, get_or-drop}
+use Rattle.std.specs.Prelude.{Some, Ok, Err}
 use Rattle.grammar.specs.Forest.{Forest, none, tree, size, words}
 use Rattle.grammar.specs.Out.{Out, took, more, refused, deep}
 use Rattle.grammar.specs.Reading.{kind_word, a_word, b_word, nodes_word, Result, room, node_words, known_rule, length_limit, deepest_level, reading, settled}
 use Rattle.grammar.specs.Reading.{result_at, result}
 use Rattle.grammar.proofs.Tests.{branch_ind, apart}
 use Rattle.grammar.proofs.Forests.{length_words}
-use Rattle.walker.specs.declared.Node.TheVariants.{Words}
-use Rattle.walker.specs.declared.Place.{Place}
-use Rattle.walker.specs.declared.Place.TheVariants.{At, Nothing, Wrong}
-use Rattle.walker.specs.Walk.{node_at, tree_end, end_of, tree_at, first_child}
+use Rattle.walker.specs.Walk.{Place, node_at, tree_end, end_of, tree_at, first_child}
 use Rattle.walker.specs.Walk.{next_sibling, nth_tree, nth_child, then_place}
 use Rattle.walker.specs.Trees.{Stands, place_of, without, nodes_before, places, walk}
 use Rattle.walker.proofs.Places.{Tree, node_inside, end_found, found_tree, limit_reached, goes_on}
@@ -64,7 +62,7 @@ module _ {t : List ℕ} {at kind a b : ℕ} {below after : Forest} (x : Stands t
   nodes_is = word 3
 
   -- NODE: kind, fields and count of the node found are those of the tree
-  pub node_found : node_at t at ≡ Words kind a b (1 + size below)
+  pub node_found : node_at t at ≡ Some (record { kind = kind; a = a; b = b; nodes = 1 + size below })
   unfolding words size
   node_found =
       let i = x.inside in
@@ -76,13 +74,13 @@ module _ {t : List ℕ} {at kind a b : ℕ} {below after : Forest} (x : Stands t
 
   -- the tree's end, before any limit that it does not reach past
   pub tree_found : (limit : ℕ) → at + (1 + size below) ≤ limit → limit ≤ room t
-      → tree_end t at limit ≡ At (at + (1 + size below))
+      → tree_end t at limit ≡ Ok (at + (1 + size below))
   tree_found limit l m =
       let n = nodes_is in
       sym (end_found t at limit (record { limit_inside = m; some_nodes = omega arith; ends = omega arith; within = l }))
 
   -- END: the node's subtree ends after its nodes
-  pub subtree_end : end_of t at ≡ At (at + (1 + size below))
+  pub subtree_end : end_of t at ≡ Ok (at + (1 + size below))
   unfolding size
   subtree_end = let i = x.inside in tree_found (room t) (omega arith) (omega arith)
 
@@ -166,10 +164,9 @@ unfolding walk tree_at
 none_left zero t at limit h = refl
 none_left (suc steps) t at limit h = from (tree_end t at limit) refl
   where
-    from : (p : Place) → tree_end t at limit ≡ p → walk (suc steps) t limit (then_place p (λ end. At at)) ≡ []
-    from Nothing q = refl
-    from Wrong q = refl
-    from (At end) q =
+    from : (p : Place) → tree_end t at limit ≡ p → walk (suc steps) t limit (then_place p (λ end. Ok at)) ≡ []
+    from (Err why) q = refl
+    from (Ok end) q =
         let x = found_tree t at limit refl q in absurd (omega (arith, x.some_nodes, x.ends, x.within))
 
 -- one step: what stands at the place, where the same is known of the places after it
@@ -181,10 +178,9 @@ unfolding walk first_child next_sibling tree_at
 one_step m n t at limit same = from (tree_end t at limit) refl
   where
     from : (p : Place) → tree_end t at limit ≡ p
-        → walk (suc m) t limit (then_place p (λ end. At at)) ≡ walk (suc n) t limit (then_place p (λ end. At at))
-    from Nothing q = refl
-    from Wrong q = refl
-    from (At end) q =
+        → walk (suc m) t limit (then_place p (λ end. Ok at)) ≡ walk (suc n) t limit (then_place p (λ end. Ok at))
+    from (Err why) q = refl
+    from (Ok end) q =
         let x = found_tree t at limit refl q in
         let some = x.some_nodes in
         let ends = x.ends in

@@ -1,28 +1,31 @@
 -- What the walk's functions answer, on any table whatever it holds. Places are indexes of nodes.
-use Rattle.std.specs.Prelude.{ℕ, zero, suc, ◌+◌, Bool, ◌&&◌, List, ltb, leb, eqb}
+use Rattle.std.specs.Prelude.{ℕ, zero, suc, ◌+◌, Bool, ◌&&◌, List, ltb, leb, eqb, Option, Some, None, Result, Ok, Err}
 use Rattle.grammar.specs.Out.{branch}
 use Rattle.grammar.specs.Reading.{room, kind_word, a_word, b_word, nodes_word}
 use Rattle.walker.specs.declared.Node.{Node}
-use Rattle.walker.specs.declared.Node.TheVariants.{Words, Outside}
-use Rattle.walker.specs.declared.Place.{Place}
-use Rattle.walker.specs.declared.Place.TheVariants.{At, Nothing, Wrong}
+use Rattle.walker.specs.declared.NoTree.{NoTree}
+use Rattle.walker.specs.declared.NoTree.TheVariants.{Nothing, Wrong}
 
 -- a node's words ----------------------------------------------------------------------------------------------------
 
-unfoldable pub node_at : List ℕ → ℕ → Node
+unfoldable pub node_at : List ℕ → ℕ → Option Node
 node_at t at =
-    branch (ltb at (room t)) (λ u. Words (kind_word t at) (a_word t at) (b_word t at) (nodes_word t at)) (λ u. Outside)
+    branch (ltb at (room t))
+    (λ u. Some (record { kind = kind_word t at; a = a_word t at; b = b_word t at; nodes = nodes_word t at })) (λ u. None)
 
 unfoldable pub kind_at : List ℕ → ℕ → ℕ
 kind_at t at = branch (ltb at (room t)) (λ u. kind_word t at) (λ u. 0)
 
 -- trees -------------------------------------------------------------------------------------------------------------
 
+-- where a tree stands, or ends; or why there is none
+abbrev pub Place : Type 0
+Place = Result ℕ NoTree
+
 -- the place found goes on; what is not found stays so
 abbrev pub then_place : Place → (ℕ → Place) → Place
-then_place (At at) go = go at
-then_place Nothing go = Nothing
-then_place Wrong go = Wrong
+then_place (Ok at) go = go at
+then_place (Err why) go = Err why
 
 -- a tree of at least one node begins there and ends by the limit, which lies in the table's room
 unfoldable pub proper_tree : List ℕ → ℕ → ℕ → Bool
@@ -34,11 +37,11 @@ proper_tree t at limit =
 unfoldable pub tree_end : List ℕ → ℕ → ℕ → Place
 unfolding proper_tree
 tree_end t at limit =
-    branch (eqb at limit) (λ u. Nothing) (λ u. branch (proper_tree t at limit) (λ v. At (at + nodes_word t at)) (λ v. Wrong))
+    branch (eqb at limit) (λ u. Err Nothing) (λ u. branch (proper_tree t at limit) (λ v. Ok (at + nodes_word t at)) (λ v. Err Wrong))
 
 -- that tree's own place
 unfoldable pub tree_at : List ℕ → ℕ → ℕ → Place
-tree_at t at limit = then_place (tree_end t at limit) (λ end. At at)
+tree_at t at limit = then_place (tree_end t at limit) (λ end. Ok at)
 
 -- the end of a node's subtree
 abbrev pub end_of : List ℕ → ℕ → Place

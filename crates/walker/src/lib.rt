@@ -4,141 +4,109 @@
 
 #![tactic(auto)]
 
-ghost use Rattle.std.specs.Prelude.{◌≡◌, ◌<◌, ◌^◌};
+ghost use Rattle.std.specs.Prelude.{◌≡◌};
 ghost use Rattle.walker.specs.Walk.{node_at, kind_at, tree_end, end_of, tree_at, first_child, next_sibling, nth_child};
 ghost use Rattle.walker.specs.Held.{walker_at};
 
-// A node's words, `nodes` being how many its subtree has; or the place has no node in the table's room.
-#[derive(Clone, Copy)]
-pub enum Node {
-    Words {
-        kind: u32,
-        a: u32,
-        b: u32,
-        nodes: u32,
-    },
-    Outside,
+// A node's words, `nodes` being how many its subtree has.
+#[derive(Clone, Copy, Debug, PartialEq, Eq)]
+pub struct Node {
+    pub kind: u32,
+    pub a: u32,
+    pub b: u32,
+    pub nodes: u32,
 }
 
-// Where a tree stands, or ends. Nothing: there is none, the limit is reached. Wrong: what stands there is no tree within
-// the limit.
-#[derive(Clone, Copy)]
-pub enum Place {
-    At(usize),
+// Why no tree is found. Nothing: there is none, the limit is reached. Wrong: what stands there is no tree within the limit.
+#[derive(Clone, Copy, Debug, PartialEq, Eq)]
+pub enum NoTree {
     Nothing,
     Wrong,
 }
 
-fn wide(word: u32) -> usize
-    ensures { (result ≡ word) × (result < 2 ^ 32) }
-{
-    word as usize
-}
-
-// The words of the node at a place.
-#[tactic(auto, using(crate::proofs::Places::node_outside, crate::proofs::Places::node_inside))]
-pub fn node_at(t: &[u32], at: usize) -> Node
+// The words of the node at a place, if the table's room has it.
+#[tactic(auto, using(grammar::proofs::Nodes::word), unfolding(crate::specs::Walk::node_at))]
+pub fn node_at(t: &[u32], at: usize) -> Option<Node>
     ensures { result ≡ node_at t.now at }
 {
-    if t.len() / 4 <= at {
-        return Node::Outside;
-    }
-    Node::Words {
-        kind: t[4 * at],
-        a: t[4 * at + 1],
-        b: t[4 * at + 2],
-        nodes: t[4 * at + 3],
-    }
+    let (all, _) = t.as_chunks::<4>();
+    let [kind, a, b, nodes] = *all.get(at)?;
+    Some(Node { kind, a, b, nodes })
 }
 
-// Its kind alone, 0 where there is no node.
-#[tactic(auto, using(crate::proofs::Places::kind_outside, crate::proofs::Places::kind_inside))]
+// Its kind alone; 0, which is no kind, where there is no node: specs/Walk.antt says so (`kind_at`).
+#[tactic(auto, unfolding(crate::specs::Walk::node_at, crate::specs::Walk::kind_at))]
 pub fn kind_at(t: &[u32], at: usize) -> u32
     ensures { result ≡ kind_at t.now at }
 {
-    if at < t.len() / 4 { t[4 * at] } else { 0 }
+    match node_at(t, at) {
+        Some(node) => node.kind,
+        None => 0,
+    }
 }
 
 // Where the tree that begins at a place ends, in the part of the table before the limit.
-pub fn tree_end(t: &[u32], at: usize, limit: usize) -> Place
+#[tactic(auto, unfolding(crate::specs::Walk::node_at, crate::specs::Walk::tree_end, crate::specs::Walk::proper_tree))]
+pub fn tree_end(t: &[u32], at: usize, limit: usize) -> Result<usize, NoTree>
     ensures { result ≡ tree_end t.now at limit }
 {
     if at == limit {
-        return Place::Nothing;
+        return Err(NoTree::Nothing);
     }
     if t.len() / 4 < limit {
-        return Place::Wrong;
+        return Err(NoTree::Wrong);
     }
-    if limit < at {
-        return Place::Wrong;
+    let node = node_at(t, at).ok_or(NoTree::Wrong)?;
+    let nodes = node.nodes as usize;
+    if nodes == 0 || limit < at + nodes {
+        return Err(NoTree::Wrong);
     }
-    let nodes = wide(t[4 * at + 3]);
-    if nodes == 0 {
-        return Place::Wrong;
-    }
-    if limit < at + nodes {
-        return Place::Wrong;
-    }
-    Place::At(at + nodes)
+    Ok(at + nodes)
 }
 
 // Where the subtree of a node ends: its children stand before that.
-pub fn end_of(t: &[u32], at: usize) -> Place
+pub fn end_of(t: &[u32], at: usize) -> Result<usize, NoTree>
     ensures { result ≡ end_of t.now at }
 {
     tree_end(t, at, t.len() / 4)
 }
 
 // The place itself, if a tree begins there that ends by the limit.
-pub fn tree_at(t: &[u32], at: usize, limit: usize) -> Place
+#[tactic(auto, unfolding(crate::specs::Walk::tree_at))]
+pub fn tree_at(t: &[u32], at: usize, limit: usize) -> Result<usize, NoTree>
     ensures { result ≡ tree_at t.now at limit }
 {
-    let end = tree_end(t, at, limit);
-    let Place::At(_) = end else {
-        return end;
-    };
-    Place::At(at)
+    tree_end(t, at, limit)?;
+    Ok(at)
 }
 
 // The first child of a node.
-pub fn first_child(t: &[u32], at: usize) -> Place
+#[tactic(auto, unfolding(crate::specs::Walk::first_child, crate::specs::Walk::tree_end, crate::specs::Walk::proper_tree))]
+pub fn first_child(t: &[u32], at: usize) -> Result<usize, NoTree>
     ensures { result ≡ first_child t.now at }
 {
-    let end = end_of(t, at);
-    let Place::At(limit) = end else {
-        return end;
-    };
+    let limit = end_of(t, at)?;
     tree_at(t, at + 1, limit)
 }
 
 // The next sibling of a node, where the parent's subtree ends at the limit.
-pub fn next_sibling(t: &[u32], at: usize, limit: usize) -> Place
+#[tactic(auto, unfolding(crate::specs::Walk::next_sibling))]
+pub fn next_sibling(t: &[u32], at: usize, limit: usize) -> Result<usize, NoTree>
     ensures { result ≡ next_sibling t.now at limit }
 {
-    let end = tree_end(t, at, limit);
-    let Place::At(next) = end else {
-        return end;
-    };
+    let next = tree_end(t, at, limit)?;
     tree_at(t, next, limit)
 }
 
 // The child of a node that has n others before it.
-pub fn nth_child(t: &[u32], at: usize, n: usize) -> Place
+#[tactic(auto, unfolding(crate::specs::Walk::nth_child, crate::specs::Walk::nth_tree, crate::specs::Walk::tree_end, crate::specs::Walk::proper_tree))]
+pub fn nth_child(t: &[u32], at: usize, n: usize) -> Result<usize, NoTree>
     ensures { result ≡ nth_child t.now at n }
 {
-    let end = end_of(t, at);
-    let Place::At(limit) = end else {
-        return end;
-    };
+    let limit = end_of(t, at)?;
     let mut child = at + 1;
-    let mut left = n;
-    while 0 < left {
-        let end = tree_end(t, child, limit);
-        let Place::At(next) = end else {
-            return end;
-        };
-        child = next;
-        left = left - 1;
+    for _passed in 0..n {
+        child = tree_end(t, child, limit)?;
     }
     tree_at(t, child, limit)
 }
@@ -169,8 +137,8 @@ impl<'a> Walker<'a> {
         }
     }
 
-    // The words of the node there.
-    pub fn node(self) -> Node
+    // The words of the node there, if there is one.
+    pub fn node(self) -> Option<Node>
         ensures { result ≡ node_at self.entry.table.now self.entry.at }
     {
         node_at(self.table, self.at)
@@ -184,28 +152,28 @@ impl<'a> Walker<'a> {
     }
 
     // Where its subtree ends.
-    pub fn end(self) -> Place
+    pub fn end(self) -> Result<usize, NoTree>
         ensures { result ≡ end_of self.entry.table.now self.entry.at }
     {
         end_of(self.table, self.at)
     }
 
     // Its first child.
-    pub fn down(self) -> Place
+    pub fn down(self) -> Result<usize, NoTree>
         ensures { result ≡ first_child self.entry.table.now self.entry.at }
     {
         first_child(self.table, self.at)
     }
 
     // Its child that has n others before it.
-    pub fn child(self, n: usize) -> Place
+    pub fn child(self, n: usize) -> Result<usize, NoTree>
         ensures { result ≡ nth_child self.entry.table.now self.entry.at n }
     {
         nth_child(self.table, self.at, n)
     }
 
     // Its next sibling, where the parent's subtree ends at the limit.
-    pub fn next(self, limit: usize) -> Place
+    pub fn next(self, limit: usize) -> Result<usize, NoTree>
         ensures { result ≡ next_sibling self.entry.table.now self.entry.at limit }
     {
         next_sibling(self.table, self.at, limit)
@@ -213,7 +181,7 @@ impl<'a> Walker<'a> {
 }
 
 // For callers that want no struct: the node at a place, by the walker.
-pub fn look(table: &[u32], at: usize) -> Node
+pub fn look(table: &[u32], at: usize) -> Option<Node>
     ensures { result ≡ node_at table.now at }
 {
     Walker::make(table, at).node()

@@ -1,13 +1,17 @@
-use borrow.Author.Rules.{rules}
-use Rattle.grammar.specs.Notation.{parenthesized_list}
+use Rattle.grammar.specs.Core.{astring}
+use Rattle.grammar.specs.Notation.{sp, separated_list0, separated_list1, parenthesized_list}
 use Rattle.table.proofs.Bounds.{leaves_of}
-use Rattle.table.proofs.Search.{line, spare_skims}
+use Rattle.table.proofs.Search.{line, spare, passed}
 use Rattle.lists.proofs.parenthesized_astrings.Goals as goal
 
-pub opt_astrings-r-requires : goal.opt_astrings-r-requires
+pub opt-r-requires-clause-stands : goal.opt-r-requires-clause-stands
 unfolding leaves_of
-opt_astrings-r-requires c = search (spare_skims, rules)
+opt-r-requires-clause-stands c = search spare
+
+pub opt_space-r-requires : goal.opt_space-r-requires
+unfolding separated_list0
+opt_space-r-requires c = let x = c.opt-r.ensures.goes 0 (separated_list1 sp astring) (search passed) in search spare
 
 pub returns : goal.returns
-unfolding parenthesized_list
-returns c = search line
+unfolding parenthesized_list separated_list0
+returns c = let x = c.opt-r.ensures.goes 0 (separated_list1 sp astring) (search passed) in search line

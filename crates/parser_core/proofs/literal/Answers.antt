@@ -1,17 +1,12 @@
+use Rattle.table.proofs.Cursors.{handed_back}
 use Rattle.parser_core.proofs.Headers.{literals}
 use Rattle.parser_core.proofs.literal.Goals as goal
 
-pub returns-then-c-ge-FAILED : goal.returns-then-c-ge-FAILED
-returns-then-c-ge-FAILED c = search literals
+pub returns-in_err-start : goal.returns-in_err-start
+returns-in_err-start c = let back = handed_back c.from_residual-in_err-start.ensures in search literals
 
-pub literal_header-h-requires : goal.literal_header-h-requires
-literal_header-h-requires c = search literals
-
-pub returns-then-h-ge-FAILED : goal.returns-then-h-ge-FAILED
-returns-then-h-ge-FAILED c = search literals
-
-pub more-requires : goal.more-requires
-more-requires c = search literals
+pub overflow_add-end : goal.overflow_add-end
+overflow_add-end c = search literals
 
 pub returns-then-s-end : goal.returns-then-s-end
 returns-then-s-end c = search literals

@@ -1,17 +1,15 @@
+use Rattle.table.proofs.Cursors.{handed_back}
 use Rattle.parser_core.proofs.Quoting.{quoteds}
 use Rattle.parser_core.proofs.quoted_from.Goals as goal
 
-pub returns-then-e-ge-FAILED : goal.returns-then-e-ge-FAILED
-returns-then-e-ge-FAILED c = search quoteds
+pub returns-in_err-next : goal.returns-in_err-next
+returns-in_err-next c = let back = handed_back c.from_residual.ensures in search quoteds
 
-pub overflow_sub-next : goal.overflow_sub-next
-overflow_sub-next c = search quoteds
+pub overflow_sub-end : goal.overflow_sub-end
+overflow_sub-end c = search quoteds
 
-pub overflow_cast-next : goal.overflow_cast-next
-overflow_cast-next c = search quoteds
-
-pub leaf-requires : goal.leaf-requires
-leaf-requires c = search quoteds
+pub overflow_cast-end : goal.overflow_cast-end
+overflow_cast-end c = search quoteds
 
 pub returns : goal.returns
 returns c = search quoteds

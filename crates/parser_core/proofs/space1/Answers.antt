@@ -1,24 +1,15 @@
 use Rattle.grammar.specs.Notation.{space1}
+use Rattle.table.proofs.Cursors.{handed_back}
 use Rattle.parser_core.proofs.Search.{runs}
 use Rattle.parser_core.proofs.space1.Goals as goal
 
-pub returns-then-c-ge-FAILED : goal.returns-then-c-ge-FAILED
+pub returns-in_err-next : goal.returns-in_err-next
 unfolding space1
-returns-then-c-ge-FAILED c = search runs
+returns-in_err-next c = let back = handed_back c.from_residual-in_err-next.ensures in search runs
 
-pub space_end-e-requires : goal.space_end-e-requires
-space_end-e-requires c = search runs
-
-pub returns-then-e-ge-FAILED : goal.returns-then-e-ge-FAILED
+pub returns-then-next-c : goal.returns-then-next-c
 unfolding space1
-returns-then-e-ge-FAILED c = search runs
-
-pub returns-then-next-i : goal.returns-then-next-i
-unfolding space1
-returns-then-next-i c = search runs
-
-pub moved-requires : goal.moved-requires
-moved-requires c = search runs
+returns-then-next-c c = search runs
 
 pub returns : goal.returns
 unfolding space1

@@ -1,26 +1,7 @@
-use Rattle.parser_core.proofs.Runs.{running}
+use borrow.Author.Rules.{rules}
+use Rattle.grammar.specs.Scan.{text_chars}
+use Rattle.parser_core.proofs.Runs.{tests_text}
 use Rattle.parser_core.proofs.text_end.Goals as goal
 
-pub loop-i-init : goal.loop-i-init
-loop-i-init c = search running
-
-pub bounds-s-i : goal.bounds-s-i
-bounds-s-i c = search running
-
-pub is_text_char-requires : goal.is_text_char-requires
-is_text_char-requires c = search running
-
-pub overflow_add-i : goal.overflow_add-i
-overflow_add-i c = search running
-
-pub loop-i-smaller : goal.loop-i-smaller
-loop-i-smaller c = search running
-
-pub loop-i-preserved : goal.loop-i-preserved
-loop-i-preserved c = search running
-
-pub returns-else-is_text_char : goal.returns-else-is_text_char
-returns-else-is_text_char c = search running
-
 pub returns : goal.returns
-returns c = search running
+returns c = c.run_end.ensures text_chars (tests_text (λ b r l p. search (p, rules)))

@@ -1,15 +1,19 @@
-use borrow.Author.Rules.{rules}
-use Rattle.parser_core.proofs.Numbers.{over_starts, over_on, over_ends, over_short}
+use mathlib.Core.Path.{subst}
+use native.Mathlib.Omega.{arith}
+use Rattle.parser_core.proofs.Numbers.{Overrunning, over_on, over_ends, over_short}
+use Rattle.parser_core.proofs.Scanning.{rest_byte, rest_long}
 use Rattle.parser_core.proofs.too_large.Goals as goal
 
-pub loop-i-init : goal.loop-i-init
-loop-i-init c = search (over_starts, rules)
+pub returns-then-not-is_digit : goal.returns-then-not-is_digit
+returns-then-not-is_digit c =
+    over_ends c.loop-b.invariant (omega (arith, rest_long c.args.s.now c.args.at, c.loop-b-test.true)) c.if-not-is_digit.true
+    (rw (rest_byte c.args.s.now c.args.at c.loop-b.b-index) at c.is_digit.ensures)
 
-pub loop-i-preserved : goal.loop-i-preserved
-loop-i-preserved c = search (over_on, rules)
-
-pub returns-else-is_digit : goal.returns-else-is_digit
-returns-else-is_digit c = search (over_ends, rules)
+pub loop-b-preserved : goal.loop-b-preserved
+loop-b-preserved c =
+    subst (Overrunning c.args.s.now c.args.at) (omega arith)
+    (over_on c.loop-b.invariant (omega (arith, rest_long c.args.s.now c.args.at, c.loop-b-test.true)) c.if-not-is_digit.false
+    (rw (rest_byte c.args.s.now c.args.at c.loop-b.b-index) at c.is_digit.ensures))
 
 pub returns : goal.returns
-returns c = search (over_short, rules)
+returns c = over_short c.loop-b.invariant (omega (arith, rest_long c.args.s.now c.args.at, c.loop-b-test.false))

@@ -1,9 +1,9 @@
-use borrow.Author.Rules.{rules}
+use Rattle.std.proofs.Common.{rules}
 use Rattle.reader.proofs.Passes.{known_by, fails, no_room, copied, passed_again, lent_words}
 use Rattle.reader.proofs.read_by.Goals as goal
 
-pub returns-then-q-ge-FAILED : goal.returns-then-q-ge-FAILED
-returns-then-q-ge-FAILED c = search (fails, known_by, rules)
+pub returns-in-Err : goal.returns-in-Err
+returns-in-Err c = search (fails, known_by, rules)
 
 pub returns-then-t-nodes : goal.returns-then-t-nodes
 returns-then-t-nodes c = search (no_room, known_by, rules)
@@ -15,4 +15,4 @@ pub returns-then-k-scratch : goal.returns-then-k-scratch
 returns-then-k-scratch c = search (copied, known_by, rules)
 
 pub returns-else-k-scratch : goal.returns-else-k-scratch
-returns-else-k-scratch c = passed_again (known_by c.requires.known_rule c.requires.in_limit) c.once-q.ensures c.if-q-ge-FAILED.false c.nodes-nodes.ensures c.place-taken.ensures c.if-t-nodes.false c.once.ensures
+returns-else-k-scratch c = search (passed_again, known_by, rules)

@@ -1,37 +1,16 @@
 use Rattle.grammar.specs.Notation.{parenthesized_list}
 use Rattle.grammar.specs.Core.{astring}
+use Rattle.table.proofs.Cursors.{handed_back}
+use Rattle.table.proofs.Lines.{named_skims}
 use Rattle.table.proofs.Bounds.{paid}
-use Rattle.rfc3501_body.proofs.Dropped.{drops}
+use Rattle.table.proofs.Search.{reads}
+use Rattle.table.proofs.Structure.{dropped_stop, dropped_done}
 use Rattle.rfc3501_body.proofs.header_list.Goals as goal
 
-pub returns-then-c-ge-FAILED : goal.returns-then-c-ge-FAILED
+pub returns-in_err-end : goal.returns-in_err-end
 unfolding paid parenthesized_list astring
-returns-then-c-ge-FAILED c = search drops
-
-pub start-requires : goal.start-requires
-unfolding paid parenthesized_list astring
-start-requires c = search drops
-
-pub slice_bounds-parenthesized_astrings-end : goal.slice_bounds-parenthesized_astrings-end
-unfolding paid parenthesized_list astring
-slice_bounds-parenthesized_astrings-end c = search drops
-
-pub parenthesized_astrings-r-requires : goal.parenthesized_astrings-r-requires
-unfolding paid parenthesized_list astring
-parenthesized_astrings-r-requires c = search drops
-
-pub returns-then-r-ge-FAILED : goal.returns-then-r-ge-FAILED
-unfolding paid parenthesized_list astring
-returns-then-r-ge-FAILED c = search drops
-
-pub place-requires : goal.place-requires
-unfolding paid parenthesized_list astring
-place-requires c = search drops
-
-pub moved-requires : goal.moved-requires
-unfolding paid parenthesized_list astring
-moved-requires c = search drops
+returns-in_err-end c = named_skims (handed_back c.from_residual-in_err-end.ensures) (search (dropped_stop, dropped_done, reads))
 
 pub returns : goal.returns
 unfolding paid parenthesized_list astring
-returns c = search drops
+returns c = search (dropped_stop, dropped_done, reads)

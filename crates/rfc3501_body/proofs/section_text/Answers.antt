@@ -1,31 +1,17 @@
-use Rattle.grammar.specs.Body.{section_text}
+use Rattle.std.proofs.Common.{rules, Err, ◌≡◌}
+use Rattle.table.specs.declared.Failure.TheVariants.{Refused}
+use Rattle.grammar.specs.Body.{section_text, a_mime}
 use Rattle.table.proofs.Search.{either}
 use Rattle.rfc3501_body.proofs.section_text.Goals as goal
 
-pub returns-then-c-ge-FAILED : goal.returns-then-c-ge-FAILED
-unfolding section_text
-returns-then-c-ge-FAILED c = search either
+pub returns-in_default : goal.returns-in_default
+unfolding section_text a_mime
+returns-in_default c = let other : c.section_msgtext-r.result ≡ Err Refused → ⊥ = (λ e. grind rules) in search either
 
-pub section_msgtext-r-requires : goal.section_msgtext-r-requires
-unfolding section_text
-section_msgtext-r-requires c = search either
-
-pub shape_of-t-then-r : goal.shape_of-t-then-r
-unfolding section_text
-shape_of-t-then-r c = search either
-
-pub returns-then-r : goal.returns-then-r
-unfolding section_text
-returns-then-r c = search either
-
-pub text_is-requires : goal.text_is-requires
-unfolding section_text
-text_is-requires c = search either
-
-pub shape_of-t : goal.shape_of-t
-unfolding section_text
-shape_of-t c = search either
+pub returns-in_default-2 : goal.returns-in_default-2
+unfolding section_text a_mime
+returns-in_default-2 c = let other : c.section_msgtext-r.result ≡ Err Refused → ⊥ = (λ e. grind rules) in search either
 
 pub returns : goal.returns
-unfolding section_text
-returns c = search either
+unfolding section_text a_mime
+returns c = let refused : c.section_msgtext-r.result ≡ Err Refused = grind rules in search either

@@ -1,31 +1,15 @@
 use Rattle.grammar.specs.Notation.{sp, opening, closing}
-use Rattle.table.proofs.Search.{line}
+use Rattle.table.proofs.Cursors.{went_on, came_back, handed_back}
+use Rattle.table.proofs.Depth.{plain}
+use Rattle.table.proofs.Going.{◌▸◌, ◌▹◌}
+use Rattle.table.proofs.Lines.{first_link, ended_skims, from_cursor}
 use Rattle.rfc3501_body_fields.proofs.disposition_fields.Goals as goal
 
-pub char-r-requires : goal.char-r-requires
-unfolding sp opening closing
-char-r-requires c = search line
-
-pub string-r-requires : goal.string-r-requires
-unfolding sp opening closing
-string-r-requires c = search line
-
-pub char-r-requires-2 : goal.char-r-requires-2
-unfolding sp opening closing
-char-r-requires-2 c = search line
-
-pub body_param-r-requires : goal.body_param-r-requires
-unfolding sp opening closing
-body_param-r-requires c = search line
-
-pub char-requires : goal.char-requires
-unfolding sp opening closing
-char-requires c = search line
-
-pub shape_of-t : goal.shape_of-t
-unfolding sp opening closing
-shape_of-t c = search line
+pub returns-in_err-c : goal.returns-in_err-c
+unfolding plain first_link sp opening closing
+returns-in_err-c c = ended_skims _ tt c.char.ensures (came_back c.branch-c.ensures c.in_err-c.is) (handed_back c.from_residual.ensures)
 
 pub returns : goal.returns
 unfolding sp opening closing
-returns c = search line
+returns c =
+    c.char.ensures.on _ ▸ from_cursor (went_on c.branch-c.ensures c.in_ok-c.is) c.string-r.ensures ▹ c.char-r.ensures ▸ c.body_param-r.ensures ▹ c.char-2.ensures

@@ -1,14 +1,12 @@
-use Rattle.table.proofs.Search.{line}
+use Rattle.grammar.specs.Core.{string}
+use Rattle.table.proofs.Cursors.{went_on, came_back, handed_back}
+use Rattle.table.proofs.Going.{◌▸▸◌}
+use Rattle.table.proofs.Lines.{first_link, ended, from_cursor}
 use Rattle.rfc3501_body_fields.proofs.param_fields.Goals as goal
 
-pub string-r-requires : goal.string-r-requires
-string-r-requires c = search line
-
-pub sp_string-requires : goal.sp_string-requires
-sp_string-requires c = search line
-
-pub shape_of-t : goal.shape_of-t
-shape_of-t c = search line
+pub returns-in_err-c : goal.returns-in_err-c
+unfolding first_link string
+returns-in_err-c c = ended _ c.string.ensures (came_back c.branch-c.ensures c.in_err-c.is) (handed_back c.from_residual.ensures)
 
 pub returns : goal.returns
-returns c = search line
+returns c = c.string.ensures ▸▸ from_cursor (went_on c.branch-c.ensures c.in_ok-c.is) c.sp_string.ensures

@@ -1,27 +1,15 @@
-use Rattle.grammar.specs.Notation.{parenthesized_nonempty_list}
-use Rattle.table.proofs.Search.{line}
+use Rattle.grammar.specs.Kinds.{kind_pair}
+use Rattle.grammar.specs.Grammar.{does, node}
+use Rattle.grammar.specs.Notation.{◌⋯◌, sp}
+use Rattle.grammar.specs.Core.{string}
+use Rattle.table.proofs.Listable.{listable}
+use Rattle.lists.proofs.Lists.{in_parentheses}
 use Rattle.rfc3501_body_fields.proofs.some_params.Goals as goal
 
-pub char-r-requires : goal.char-r-requires
-unfolding parenthesized_nonempty_list
-char-r-requires c = search line
-
-pub params-r-requires : goal.params-r-requires
-unfolding parenthesized_nonempty_list
-params-r-requires c = search line
-
-pub space0-r-requires : goal.space0-r-requires
-unfolding parenthesized_nonempty_list
-space0-r-requires c = search line
-
-pub char-requires : goal.char-requires
-unfolding parenthesized_nonempty_list
-char-requires c = search line
-
-pub shape_of-t : goal.shape_of-t
-unfolding parenthesized_nonempty_list
-shape_of-t c = search line
+pub parenthesized_nonempty_list-requires-clause-items : goal.parenthesized_nonempty_list-requires-clause-items
+unfolding listable sp string
+parenthesized_nonempty_list-requires-clause-items c = (0, does (node kind_pair) (string ⋯ sp ⋯ string), search in_parentheses)
 
 pub returns : goal.returns
-unfolding parenthesized_nonempty_list
-returns c = search line
+unfolding listable sp string
+returns c = search in_parentheses

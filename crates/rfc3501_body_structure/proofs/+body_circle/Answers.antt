@@ -1,140 +1,113 @@
-use Rattle.std.proofs.Common.{rules}
-use Rattle.grammar.specs.Notation.{sp, many1, paren_delimited}
+use Rattle.std.proofs.Common.{rules, Err, ◌≡◌}
+use mathlib.Core.Path.{refl}
+use native.Mathlib.Omega.{arith}
+use Rattle.table.specs.declared.Failure.TheVariants.{Refused}
+use Rattle.grammar.specs.Grammar.{ref, a_body}
+use Rattle.grammar.specs.Notation.{◌⋯◌, sp, many1, paren_delimited}
 use Rattle.grammar.specs.Core.{number, string}
-use Rattle.grammar.specs.BodyStructure.{message_fields, body_type_text, body_type_message, body_type_basic, body_type_multipart}
-use Rattle.table.proofs.Depth.{plain}
-use Rattle.table.proofs.Bounds.{paid, item, leaves_of}
+use Rattle.grammar.specs.BodyStructure.{body_ext_1part, body_ext_mpart, message_fields, body_type_text, body_type_message, body_type_multipart}
+use Rattle.table.proofs.Cursors.{went_on, came_back, handed_back}
+use Rattle.table.proofs.Bounds.{paid, leaves_of, within_read}
+use Rattle.table.proofs.Depth.{plain, at_depth}
+use Rattle.table.proofs.Going.{and, early, ◌▸◌, ◌▸▸◌}
+use Rattle.table.proofs.Levels.{none_left}
+use Rattle.table.proofs.Lines.{first_link, named_stands, ended_skims, early_back, from_cursor, skims_from_cursor, levels_lines}
+use Rattle.table.proofs.Listable.{listable}
 use Rattle.table.proofs.Opens.{hungry}
-use Rattle.table.proofs.Trees.{lone}
-use Rattle.table.proofs.Going.{early, ◌▸◌, ◌▸▸◌}
-use Rattle.table.proofs.Search.{first_plain, levels_line, structure, list, spare_after}
-use Rattle.rfc3501_body_structure.proofs.First.{bodies, types_text, types_message, types_basic, types_multipart}
+use Rattle.table.proofs.Search.{reads, passed, first_plain, spare_after}
+use Rattle.rfc3501_body_structure.proofs.First.{body_done, types_text, types_message, types_basic, types_multipart}
 use Rattle.rfc3501_body_structure.proofs.+body_circle.Goals as goal
 
-pub bodies-returns-then-c-ge-FAILED : goal.bodies-returns-then-c-ge-FAILED
-unfolding item lone paid plain hungry leaves_of sp many1 paren_delimited number string message_fields body_type_text body_type_message body_type_basic body_type_multipart
-bodies-returns-then-c-ge-FAILED t c = search list
-
-pub bodies-body-first-requires : goal.bodies-body-first-requires
-unfolding item lone paid plain hungry leaves_of sp many1 paren_delimited number string message_fields body_type_text body_type_message body_type_basic body_type_multipart
-bodies-body-first-requires t c = search list
-
-pub bodies-returns-then-first-ge-FAILED : goal.bodies-returns-then-first-ge-FAILED
-unfolding item lone paid plain hungry leaves_of sp many1 paren_delimited number string message_fields body_type_text body_type_message body_type_basic body_type_multipart
-bodies-returns-then-first-ge-FAILED t c = search list
-
-pub bodies-loop-t-init : goal.bodies-loop-t-init
-unfolding item lone paid plain hungry leaves_of sp many1 paren_delimited number string message_fields body_type_text body_type_message body_type_basic body_type_multipart
-bodies-loop-t-init t c = search list
-
-pub bodies-returns-then-r-ge-FAILED : goal.bodies-returns-then-r-ge-FAILED
-unfolding item lone paid plain hungry leaves_of sp many1 paren_delimited number string message_fields body_type_text body_type_message body_type_basic body_type_multipart
-bodies-returns-then-r-ge-FAILED t c = search list
-
-pub bodies-loop-t-smaller : goal.bodies-loop-t-smaller
-unfolding item lone paid plain hungry leaves_of sp many1 paren_delimited number string message_fields body_type_text body_type_message body_type_basic body_type_multipart
-bodies-loop-t-smaller t c = search list
-
-pub bodies-loop-t-preserved : goal.bodies-loop-t-preserved
-unfolding item lone paid plain hungry leaves_of sp many1 paren_delimited number string message_fields body_type_text body_type_message body_type_basic body_type_multipart
-bodies-loop-t-preserved t c = search list
-
-pub body-returns-then-c-ge-FAILED : goal.body-returns-then-c-ge-FAILED
-unfolding item lone paid plain hungry leaves_of sp many1 paren_delimited number string message_fields body_type_text body_type_message body_type_basic body_type_multipart
-body-returns-then-c-ge-FAILED t c = search bodies
-
 pub body-returns-then-left-eq0 : goal.body-returns-then-left-eq0
-unfolding item lone paid plain hungry leaves_of sp many1 paren_delimited number string message_fields body_type_text body_type_message body_type_basic body_type_multipart
-body-returns-then-left-eq0 t c = search bodies
+body-returns-then-left-eq0 t c = none_left c.if-left-eq0.true (skims_from_cursor (went_on c.branch-c.ensures c.in_ok-c.is) c.too_deep.ensures)
 
 pub body-head-requires-clause-within : goal.body-head-requires-clause-within
-unfolding item lone paid plain hungry leaves_of sp many1 paren_delimited number string message_fields body_type_text body_type_message body_type_basic body_type_multipart
-body-head-requires-clause-within t c = search bodies
+body-head-requires-clause-within t c = within_read refl c.body_inside-r.ensures
 
 pub body-returns : goal.body-returns
-unfolding item lone paid plain hungry leaves_of sp many1 paren_delimited number string message_fields body_type_text body_type_message body_type_basic body_type_multipart
-body-returns t c = search bodies
+body-returns t c = body_done c.if-left-eq0.false (went_on c.branch-c.ensures c.in_ok-c.is) (from_cursor (went_on c.branch-c.ensures c.in_ok-c.is) c.body_inside-r.ensures) c.head.ensures
 
-pub body_inside-returns-then-r-ge-FAILED : goal.body_inside-returns-then-r-ge-FAILED
-unfolding item lone paid plain hungry leaves_of sp many1 paren_delimited number string message_fields body_type_text body_type_message body_type_basic body_type_multipart
-body_inside-returns-then-r-ge-FAILED t c = search levels_line
+pub body_inside-returns-in_err-c : goal.body_inside-returns-in_err-c
+unfolding plain first_link paren_delimited
+body_inside-returns-in_err-c t c = ended_skims _ tt c.char.ensures (came_back c.branch-c.ensures c.in_err-c.is) (handed_back c.from_residual.ensures)
 
 pub body_inside-returns : goal.body_inside-returns
-unfolding item lone paid plain hungry leaves_of sp many1 paren_delimited number string message_fields body_type_text body_type_message body_type_basic body_type_multipart
-body_inside-returns t c = search levels_line
+unfolding plain paren_delimited
+body_inside-returns t c = search levels_lines
 
-pub body_type_message-returns-then-c-ge-FAILED : goal.body_type_message-returns-then-c-ge-FAILED
-unfolding item lone paid plain hungry leaves_of sp many1 paren_delimited number string message_fields body_type_text body_type_message body_type_basic body_type_multipart
-body_type_message-returns-then-c-ge-FAILED t c = search structure
+pub body_types-returns-then-s-c : goal.body_types-returns-then-s-c
+unfolding hungry body_type_text
+body_types-returns-then-s-c t c = search reads
 
-pub body_type_message-message_body-r-requires : goal.body_type_message-message_body-r-requires
-unfolding item lone paid plain hungry leaves_of sp many1 paren_delimited number string message_fields body_type_text body_type_message body_type_basic body_type_multipart
-body_type_message-message_body-r-requires t c = search structure
+pub body_types-returns-then-s-c-eq-BODY_OPENS : goal.body_types-returns-then-s-c-eq-BODY_OPENS
+body_types-returns-then-s-c-eq-BODY_OPENS t c = types_multipart (went_on c.branch-c.ensures c.in_ok-c.is) (omega arith) c.if-s-c-eq-BODY_OPENS.true (from_cursor (went_on c.branch-c.ensures c.in_ok-c.is) c.body_type_multipart.ensures)
 
-pub body_type_message-returns : goal.body_type_message-returns
-unfolding item lone paid plain hungry leaves_of sp many1 paren_delimited number string message_fields body_type_text body_type_message body_type_basic body_type_multipart
-body_type_message-returns t c = search structure
+pub body_types-returns-in_default : goal.body_types-returns-in_default
+body_types-returns-in_default t c = let other : c.body_type_text-r.result ≡ Err Refused → ⊥ = (λ e. grind rules) in types_text (from_cursor (went_on c.branch-c.ensures c.in_ok-c.is) c.body_type_text-r.ensures) other
 
-pub body_type_multipart-returns-then-c-ge-FAILED : goal.body_type_multipart-returns-then-c-ge-FAILED
-unfolding item lone paid plain hungry leaves_of sp many1 paren_delimited number string message_fields body_type_text body_type_message body_type_basic body_type_multipart
-body_type_multipart-returns-then-c-ge-FAILED t c = search structure
+pub body_types-returns-in_default-2 : goal.body_types-returns-in_default-2
+body_types-returns-in_default-2 t c = let other : c.body_type_text-r.result ≡ Err Refused → ⊥ = (λ e. grind rules) in types_text (from_cursor (went_on c.branch-c.ensures c.in_ok-c.is) c.body_type_text-r.ensures) other
 
-pub body_type_multipart-multipart_fields-r-requires : goal.body_type_multipart-multipart_fields-r-requires
-unfolding item lone paid plain hungry leaves_of sp many1 paren_delimited number string message_fields body_type_text body_type_message body_type_basic body_type_multipart
-body_type_multipart-multipart_fields-r-requires t c = search structure
+pub body_types-returns-in_default-r : goal.body_types-returns-in_default-r
+body_types-returns-in_default-r t c = let no_text : c.body_type_text-r.result ≡ Err Refused = grind rules in let other : c.body_type_message-r.result ≡ Err Refused → ⊥ = (λ e. grind rules) in types_message (from_cursor (went_on c.branch-c.ensures c.in_ok-c.is) c.body_type_message-r.ensures) other (from_cursor (went_on c.branch-c.ensures c.in_ok-c.is) c.body_type_text-r.ensures) no_text
 
-pub body_type_multipart-returns : goal.body_type_multipart-returns
-unfolding item lone paid plain hungry leaves_of sp many1 paren_delimited number string message_fields body_type_text body_type_message body_type_basic body_type_multipart
-body_type_multipart-returns t c = search structure
-
-pub body_types-returns-then-c-ge-FAILED : goal.body_types-returns-then-c-ge-FAILED
-unfolding item lone paid plain hungry leaves_of sp many1 paren_delimited number string message_fields body_type_text body_type_message body_type_basic body_type_multipart
-body_types-returns-then-c-ge-FAILED t c = search bodies
-
-pub body_types-returns-then-s-i : goal.body_types-returns-then-s-i
-unfolding item lone paid plain hungry leaves_of sp many1 paren_delimited number string message_fields body_type_text body_type_message body_type_basic body_type_multipart
-body_types-returns-then-s-i t c = search bodies
-
-pub body_types-returns-then-s-i-eq-BODY_OPENS : goal.body_types-returns-then-s-i-eq-BODY_OPENS
-unfolding item lone paid plain hungry leaves_of sp many1 paren_delimited number string message_fields body_type_text body_type_message body_type_basic body_type_multipart
-body_types-returns-then-s-i-eq-BODY_OPENS t c = search (types_multipart, rules)
-
-pub body_types-returns-then-r : goal.body_types-returns-then-r
-unfolding item lone paid plain hungry leaves_of sp many1 paren_delimited number string message_fields body_type_text body_type_message body_type_basic body_type_multipart
-body_types-returns-then-r t c = search (types_text, rules)
-
-pub body_types-returns-then-r-2 : goal.body_types-returns-then-r-2
-unfolding item lone paid plain hungry leaves_of sp many1 paren_delimited number string message_fields body_type_text body_type_message body_type_basic body_type_multipart
-body_types-returns-then-r-2 t c = types_message c.body_type_message-r.ensures c.if-r-2.true c.body_type_text-r.ensures c.if-r.false
+pub body_types-returns-in_default-r-2 : goal.body_types-returns-in_default-r-2
+body_types-returns-in_default-r-2 t c = let no_text : c.body_type_text-r.result ≡ Err Refused = grind rules in let other : c.body_type_message-r.result ≡ Err Refused → ⊥ = (λ e. grind rules) in types_message (from_cursor (went_on c.branch-c.ensures c.in_ok-c.is) c.body_type_message-r.ensures) other (from_cursor (went_on c.branch-c.ensures c.in_ok-c.is) c.body_type_text-r.ensures) no_text
 
 pub body_types-returns : goal.body_types-returns
-unfolding item lone paid plain hungry leaves_of sp many1 paren_delimited number string message_fields body_type_text body_type_message body_type_basic body_type_multipart
-body_types-returns t c = search (types_basic, rules)
+body_types-returns t c = let no_text : c.body_type_text-r.result ≡ Err Refused = grind rules in let no_message : c.body_type_message-r.result ≡ Err Refused = grind rules in types_basic (went_on c.branch-c.ensures c.in_ok-c.is) (omega arith) c.if-s-c-eq-BODY_OPENS.false (from_cursor (went_on c.branch-c.ensures c.in_ok-c.is) c.body_type_text-r.ensures) no_text (from_cursor (went_on c.branch-c.ensures c.in_ok-c.is) c.body_type_message-r.ensures) no_message (from_cursor (went_on c.branch-c.ensures c.in_ok-c.is) c.body_type_basic.ensures)
 
-pub message_body-returns-then-r-ge-FAILED : goal.message_body-returns-then-r-ge-FAILED
-unfolding item lone paid plain hungry leaves_of sp many1 paren_delimited number string message_fields body_type_text body_type_message body_type_basic body_type_multipart
-message_body-returns-then-r-ge-FAILED t c = search (early, first_plain) depth 9
+pub body_type_message-parent-requires-clause-holds : goal.body_type_message-parent-requires-clause-holds
+unfolding paid body_type_message
+body_type_message-parent-requires-clause-holds t c = (c.args.left, message_fields ⋯ sp ⋯ ref a_body ⋯ sp ⋯ number ⋯ body_ext_1part, search passed)
+
+pub body_type_message-returns : goal.body_type_message-returns
+unfolding paid body_type_message
+body_type_message-returns t c = c.parent.ensures.goes c.args.left (message_fields ⋯ sp ⋯ ref a_body ⋯ sp ⋯ number ⋯ body_ext_1part) (search passed)
+
+pub message_body-returns-in_err-c : goal.message_body-returns-in_err-c
+unfolding plain number sp message_fields
+message_body-returns-in_err-c t c = early_back (early (early (early (early (first_plain tt c.message_fields.ensures) (came_back c.branch-c.ensures c.in_err-c.is)) refl) refl) refl) refl (handed_back c.from_residual.ensures)
 
 pub message_body-body_ext_1part-requires : goal.message_body-body_ext_1part-requires
-unfolding item lone paid plain hungry leaves_of sp many1 paren_delimited number string message_fields body_type_text body_type_message body_type_basic body_type_multipart
+unfolding leaves_of sp number
 message_body-body_ext_1part-requires t c = spare_after c.sp_number-r.ensures c.sp_body-r.ensures.stands tt
 
 pub message_body-returns : goal.message_body-returns
-unfolding item lone paid plain hungry leaves_of sp many1 paren_delimited number string message_fields body_type_text body_type_message body_type_basic body_type_multipart
-message_body-returns t c = first_plain tt c.message_fields-r.ensures ▸▸ c.sp_body-r.ensures ▸▸ first_plain tt c.sp_number-r.ensures ▸ c.body_ext_1part.ensures
+unfolding plain sp number message_fields
+message_body-returns t c = first_plain tt c.message_fields.ensures ▸▸ from_cursor (went_on c.branch-c.ensures c.in_ok-c.is) c.sp_body-r.ensures ▸▸ first_plain tt c.sp_number-r.ensures ▸ c.body_ext_1part.ensures
 
-pub multipart_fields-body_ext_mpart-requires : goal.multipart_fields-body_ext_mpart-requires
-unfolding item lone paid plain hungry leaves_of sp many1 paren_delimited number string message_fields body_type_text body_type_message body_type_basic body_type_multipart
-multipart_fields-body_ext_mpart-requires t c = spare_after c.sp_string-r.ensures c.bodies-r.ensures.stands tt
-
-pub multipart_fields-returns : goal.multipart_fields-returns
-unfolding item lone paid plain hungry leaves_of sp many1 paren_delimited number string message_fields body_type_text body_type_message body_type_basic body_type_multipart
-multipart_fields-returns t c = c.bodies-r.ensures ▸▸ first_plain tt c.sp_string-r.ensures ▸ c.body_ext_mpart.ensures
-
-pub sp_body-returns-then-r-ge-FAILED : goal.sp_body-returns-then-r-ge-FAILED
-unfolding item lone paid plain hungry leaves_of sp many1 paren_delimited number string message_fields body_type_text body_type_message body_type_basic body_type_multipart
-sp_body-returns-then-r-ge-FAILED t c = search levels_line
+pub sp_body-returns-in_err-c : goal.sp_body-returns-in_err-c
+unfolding plain first_link sp
+sp_body-returns-in_err-c t c = ended_skims _ tt c.char.ensures (came_back c.branch-c.ensures c.in_err-c.is) (handed_back c.from_residual.ensures)
 
 pub sp_body-returns : goal.sp_body-returns
-unfolding item lone paid plain hungry leaves_of sp many1 paren_delimited number string message_fields body_type_text body_type_message body_type_basic body_type_multipart
-sp_body-returns t c = search levels_line
+unfolding plain sp
+sp_body-returns t c = and (at_depth _ tt (c.char.ensures.on _)) (from_cursor (went_on c.branch-c.ensures c.in_ok-c.is) c.body.ensures)
+
+pub body_type_multipart-parent-requires-clause-holds : goal.body_type_multipart-parent-requires-clause-holds
+unfolding paid body_type_multipart
+body_type_multipart-parent-requires-clause-holds t c = (c.args.left, many1 (ref a_body) ⋯ sp ⋯ string ⋯ body_ext_mpart, search passed)
+
+pub body_type_multipart-returns : goal.body_type_multipart-returns
+unfolding paid body_type_multipart
+body_type_multipart-returns t c = c.parent.ensures.goes c.args.left (many1 (ref a_body) ⋯ sp ⋯ string ⋯ body_ext_mpart) (search passed)
+
+pub multipart_fields-returns-in_err-c : goal.multipart_fields-returns-in_err-c
+multipart_fields-returns-in_err-c t c = early_back (early (early c.bodies.ensures (came_back c.branch-c.ensures c.in_err-c.is)) refl) refl (handed_back c.from_residual.ensures)
+
+pub multipart_fields-body_ext_mpart-requires : goal.multipart_fields-body_ext_mpart-requires
+unfolding leaves_of sp string
+multipart_fields-body_ext_mpart-requires t c = spare_after c.sp_string-r.ensures (named_stands (went_on c.branch-c.ensures c.in_ok-c.is) c.bodies.ensures.stands) tt
+
+pub multipart_fields-returns : goal.multipart_fields-returns
+unfolding plain sp string
+multipart_fields-returns t c = c.bodies.ensures ▸▸ from_cursor (went_on c.branch-c.ensures c.in_ok-c.is) (first_plain tt c.sp_string-r.ensures) ▸ c.body_ext_mpart.ensures
+
+pub bodies-items-requires-clause-lists : goal.bodies-items-requires-clause-lists
+unfolding listable
+bodies-items-requires-clause-lists t c = (c.args.left, (ref a_body, ref a_body), search passed)
+
+pub bodies-returns : goal.bodies-returns
+unfolding listable many1
+bodies-returns t c = c.items.ensures.goes c.args.left (ref a_body, ref a_body) (search passed)

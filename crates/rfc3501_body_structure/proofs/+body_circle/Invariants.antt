@@ -1,40 +1,39 @@
 -- Each function's measure: the levels that are left, and within a level the order of the calls.
-use Rattle.std.proofs.Common.{◌+◌, ◌-◌, ◌*◌, length}
-use Rattle.grammar.specs.Grammar.{ref, a_body}
-use Rattle.table.specs.Cursor.{step, place_of}
-use Rattle.table.proofs.Lists.{Turns}
+use Rattle.std.proofs.Common.{◌+◌, ◌*◌}
 use Rattle.rfc3501_body_structure.proofs.+body_circle.Given as goal
 
-abbrev pub decreases-bodies : goal.decreases-bodies
-decreases-bodies l = 10 * l.left + 5
-
 abbrev pub decreases-body : goal.decreases-body
-decreases-body l = 10 * l.left + 3
+decreases-body l = 10 * l.left + 1
 
-abbrev pub decreases-body_inside : goal.decreases-body_inside
-decreases-body_inside l = 10 * l.left + 9
-
-abbrev pub decreases-body_type_message : goal.decreases-body_type_message
-decreases-body_type_message l = 10 * l.left + 7
-
-abbrev pub decreases-body_type_multipart : goal.decreases-body_type_multipart
-decreases-body_type_multipart l = 10 * l.left + 7
-
-abbrev pub decreases-body_types : goal.decreases-body_types
-decreases-body_types l = 10 * l.left + 8
-
-abbrev pub decreases-message_body : goal.decreases-message_body
-decreases-message_body l = 10 * l.left + 6
-
-abbrev pub decreases-multipart_fields : goal.decreases-multipart_fields
-decreases-multipart_fields l = 10 * l.left + 6
+abbrev pub decreases-bodies-item : goal.decreases-bodies-item
+decreases-bodies-item l = 10 * l.left + 2
 
 abbrev pub decreases-sp_body : goal.decreases-sp_body
-decreases-sp_body l = 10 * l.left + 4
+decreases-sp_body l = 10 * l.left + 3
 
-abbrev pub invariant-bodies-loop-t : goal.invariant-bodies-loop-t
-invariant-bodies-loop-t l =
-    Turns l.left (ref a_body) (ref a_body) l.s l.c l.k l.initial.e l.initial.count l.initial.t l.e l.count l.t
+abbrev pub decreases-bodies : goal.decreases-bodies
+decreases-bodies l = 10 * l.left + 3
 
-abbrev pub decreases-bodies-loop-t : goal.decreases-bodies-loop-t
-decreases-bodies-loop-t l = length l.s - place_of (step l.e)
+abbrev pub decreases-message_body : goal.decreases-message_body
+decreases-message_body l = 10 * l.left + 4
+
+abbrev pub decreases-multipart_fields : goal.decreases-multipart_fields
+decreases-multipart_fields l = 10 * l.left + 4
+
+abbrev pub decreases-body_type_message-parent : goal.decreases-body_type_message-parent
+decreases-body_type_message-parent l = 10 * l.left + 5
+
+abbrev pub decreases-body_type_multipart-parent : goal.decreases-body_type_multipart-parent
+decreases-body_type_multipart-parent l = 10 * l.left + 5
+
+abbrev pub decreases-body_type_message : goal.decreases-body_type_message
+decreases-body_type_message l = 10 * l.left + 6
+
+abbrev pub decreases-body_type_multipart : goal.decreases-body_type_multipart
+decreases-body_type_multipart l = 10 * l.left + 6
+
+abbrev pub decreases-body_types : goal.decreases-body_types
+decreases-body_types l = 10 * l.left + 7
+
+abbrev pub decreases-body_inside : goal.decreases-body_inside
+decreases-body_inside l = 10 * l.left + 8

@@ -1,16 +1,14 @@
-use Rattle.grammar.specs.BodyStructure.{body_type_basic}
+use Rattle.grammar.specs.Notation.{◌⋯◌, sp}
+use Rattle.grammar.specs.Core.{string}
+use Rattle.grammar.specs.BodyStructure.{body_fields, body_ext_1part, body_type_basic}
 use Rattle.table.proofs.Bounds.{paid}
-use Rattle.table.proofs.Search.{structure}
+use Rattle.table.proofs.Search.{passed}
 use Rattle.rfc3501_body_structure.proofs.body_type_basic.Goals as goal
 
-pub returns-then-c-ge-FAILED : goal.returns-then-c-ge-FAILED
+pub parent-requires-clause-holds : goal.parent-requires-clause-holds
 unfolding paid body_type_basic
-returns-then-c-ge-FAILED c = search structure
-
-pub basic_fields-r-requires : goal.basic_fields-r-requires
-unfolding paid body_type_basic
-basic_fields-r-requires c = search structure
+parent-requires-clause-holds c = (c.args.left, string ⋯ sp ⋯ string ⋯ sp ⋯ body_fields ⋯ body_ext_1part, search passed)
 
 pub returns : goal.returns
 unfolding paid body_type_basic
-returns c = search structure
+returns c = c.parent.ensures.goes c.args.left (string ⋯ sp ⋯ string ⋯ sp ⋯ body_fields ⋯ body_ext_1part) (search passed)

@@ -1,12 +1,14 @@
-use Rattle.table.proofs.Search.{first_skims}
-use Rattle.table.proofs.Going.{◌▸◌, ◌▹◌, ◌▸▸◌, early}
 use Rattle.grammar.specs.BodyStructure.{message_fields}
+use Rattle.table.proofs.Cursors.{went_on, came_back, handed_back}
+use Rattle.table.proofs.Depth.{plain}
+use Rattle.table.proofs.Going.{◌▸◌, ◌▹◌, ◌▸▸◌}
+use Rattle.table.proofs.Lines.{first_link, ended_skims, from_cursor}
 use Rattle.rfc3501_body_structure.proofs.message_fields.Goals as goal
 
-pub returns-then-r-ge-FAILED : goal.returns-then-r-ge-FAILED
-unfolding message_fields
-returns-then-r-ge-FAILED c = search (early, first_skims) depth 9
+pub returns-in_err-c : goal.returns-in_err-c
+unfolding plain first_link message_fields
+returns-in_err-c c = ended_skims _ tt c.tag_no_case.ensures (came_back c.branch-c.ensures c.in_err-c.is) (handed_back c.from_residual.ensures)
 
 pub returns : goal.returns
 unfolding message_fields
-returns c = c.tag_no_case-r.ensures.on _ ▸▸ c.sp_body_fields-r.ensures ▹ c.char-r.ensures ▸ c.envelope.ensures
+returns c = c.tag_no_case.ensures.on _ ▸▸ from_cursor (went_on c.branch-c.ensures c.in_ok-c.is) c.sp_body_fields-r.ensures ▹ c.char-r.ensures ▸ c.envelope.ensures

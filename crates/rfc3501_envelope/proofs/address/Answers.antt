@@ -1,14 +1,14 @@
+use Rattle.grammar.specs.Notation.{◌⋯◌, sp, opening, closing}
+use Rattle.grammar.specs.Core.{nstring}
 use Rattle.grammar.specs.Envelope.{address}
 use Rattle.table.proofs.Bounds.{paid}
-use Rattle.table.proofs.Search.{structure}
+use Rattle.table.proofs.Search.{passed}
 use Rattle.rfc3501_envelope.proofs.address.Goals as goal
 
-pub returns-then-c-ge-FAILED : goal.returns-then-c-ge-FAILED
-returns-then-c-ge-FAILED c = search structure
-
-pub address_fields-r-requires : goal.address_fields-r-requires
-address_fields-r-requires c = search structure
+pub parent-requires-clause-holds : goal.parent-requires-clause-holds
+unfolding paid address
+parent-requires-clause-holds c = (0, opening ⋯ nstring ⋯ sp ⋯ nstring ⋯ sp ⋯ nstring ⋯ sp ⋯ nstring ⋯ closing, search passed)
 
 pub returns : goal.returns
 unfolding paid address
-returns c = search structure
+returns c = search passed

@@ -1,12 +1,15 @@
 use Rattle.grammar.specs.Notation.{sp, opening, closing}
-use Rattle.table.proofs.Search.{first_skims}
-use Rattle.table.proofs.Going.{early, ◌▸◌, ◌▹◌, ◌▸▸◌}
+use Rattle.table.proofs.Cursors.{went_on, came_back, handed_back}
+use Rattle.table.proofs.Depth.{plain}
+use Rattle.table.proofs.Going.{◌▸◌, ◌▹◌, ◌▸▸◌}
+use Rattle.table.proofs.Lines.{first_link, ended_skims, from_cursor}
 use Rattle.rfc3501_envelope.proofs.address_fields.Goals as goal
 
-pub returns-then-r-ge-FAILED : goal.returns-then-r-ge-FAILED
-unfolding sp opening
-returns-then-r-ge-FAILED c = search (early, first_skims) depth 9
+pub returns-in_err-c : goal.returns-in_err-c
+unfolding plain first_link sp opening closing
+returns-in_err-c c = ended_skims _ tt c.char.ensures (came_back c.branch-c.ensures c.in_err-c.is) (handed_back c.from_residual.ensures)
 
 pub returns : goal.returns
 unfolding sp opening closing
-returns c = c.char-r.ensures.on _ ▸ c.nstring-r.ensures ▸▸ c.sp_nstring-r.ensures ▸▸ c.sp_nstring-r-2.ensures ▸▸ c.sp_nstring-r-3.ensures ▹ c.char.ensures
+returns c =
+    c.char.ensures.on _ ▸ from_cursor (went_on c.branch-c.ensures c.in_ok-c.is) c.nstring-r.ensures ▸▸ c.sp_nstring-r.ensures ▸▸ c.sp_nstring-r-2.ensures ▸▸ c.sp_nstring-r-3.ensures ▹ c.char-2.ensures

@@ -1,17 +1,9 @@
-use Rattle.rfc3501_envelope.proofs.First.{firsts}
 use Rattle.grammar.specs.Envelope.{opt_addresses}
-use Rattle.table.proofs.Opens.{hungry}
+use Rattle.parser_core.proofs.Dispatch.{opening_by}
+use Rattle.table.proofs.Opens.{opens}
+use Rattle.table.proofs.Search.{passed}
 use Rattle.rfc3501_envelope.proofs.opt_addresses.Goals as goal
 
-pub returns-then-c-ge-FAILED : goal.returns-then-c-ge-FAILED
-returns-then-c-ge-FAILED c = search firsts
-
-pub returns-then-s-i : goal.returns-then-s-i
-unfolding hungry opt_addresses
-returns-then-s-i c = search firsts
-
-pub returns-then-s-i-eq40 : goal.returns-then-s-i-eq40
-returns-then-s-i-eq40 c = search firsts
-
 pub returns : goal.returns
-returns c = search firsts
+unfolding opens opt_addresses
+returns c = c.nil_or.ensures.goes 0 _ (search passed) (opening_by (λ b p. rw p))

@@ -1,11 +1,7 @@
 use Rattle.grammar.specs.Notation.{sp}
-use Rattle.table.proofs.Search.{line}
+use Rattle.table.proofs.Search.{passed}
 use Rattle.rfc3501_envelope.proofs.sp_opt_addresses.Goals as goal
-
-pub returns-then-r-ge-FAILED : goal.returns-then-r-ge-FAILED
-unfolding sp
-returns-then-r-ge-FAILED c = search line
 
 pub returns : goal.returns
 unfolding sp
-returns c = search line
+returns c = search passed

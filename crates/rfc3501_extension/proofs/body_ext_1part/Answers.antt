@@ -1,17 +1,19 @@
+use Rattle.std.proofs.Common.{rules, Err, ◌≡◌}
+use Rattle.table.specs.declared.Failure.TheVariants.{Refused}
 use Rattle.rfc3501_extension.specs.Tails.{from_dsp}
 use Rattle.grammar.specs.BodyStructure.{body_ext_1part}
 use Rattle.table.proofs.Depth.{plain}
 use Rattle.table.proofs.Search.{levels_either}
 use Rattle.rfc3501_extension.proofs.body_ext_1part.Goals as goal
 
-pub returns-then-c-ge-FAILED : goal.returns-then-c-ge-FAILED
+pub returns-in_default : goal.returns-in_default
 unfolding plain body_ext_1part from_dsp
-returns-then-c-ge-FAILED c = search levels_either
+returns-in_default c = let other : c.md5_tail-r.result ≡ Err Refused → ⊥ = (λ e. grind rules) in search levels_either
 
-pub returns-then-r : goal.returns-then-r
+pub returns-in_default-2 : goal.returns-in_default-2
 unfolding plain body_ext_1part from_dsp
-returns-then-r c = search levels_either
+returns-in_default-2 c = let other : c.md5_tail-r.result ≡ Err Refused → ⊥ = (λ e. grind rules) in search levels_either
 
 pub returns : goal.returns
 unfolding plain body_ext_1part from_dsp
-returns c = search levels_either
+returns c = let refused : c.md5_tail-r.result ≡ Err Refused = grind rules in search levels_either

@@ -1,16 +1,14 @@
-use Rattle.grammar.specs.Rfc4315.{resp_text_code_append_uid}
 use Rattle.table.proofs.Bounds.{paid}
-use Rattle.table.proofs.Search.{structure}
+use Rattle.table.proofs.Search.{passed}
+use Rattle.grammar.specs.Notation.{◌⋯◌, any_case, sp}
+use Rattle.grammar.specs.Core.{number}
+use Rattle.grammar.specs.Rfc4315.{uid_set, resp_text_code_append_uid}
 use Rattle.rfc4315.proofs.resp_text_code_append_uid.Goals as goal
 
-pub returns-then-c-ge-FAILED : goal.returns-then-c-ge-FAILED
-unfolding paid resp_text_code_append_uid
-returns-then-c-ge-FAILED c = search structure
-
-pub named_uids-r-requires : goal.named_uids-r-requires
-unfolding paid resp_text_code_append_uid
-named_uids-r-requires c = search structure
+pub parent-requires-clause-holds : goal.parent-requires-clause-holds
+unfolding paid sp number uid_set
+parent-requires-clause-holds c = (0, any_case "APPENDUID " ⋯ number ⋯ sp ⋯ uid_set, search passed)
 
 pub returns : goal.returns
 unfolding paid resp_text_code_append_uid
-returns c = search structure
+returns c = search passed

@@ -19,6 +19,9 @@ slice_bounds-check_entry_name-end c = search contents
 pub returns-then-b-eq34 : goal.returns-then-b-eq34
 returns-then-b-eq34 c = search contents
 
+pub unwrap-start-requires : goal.unwrap-start-requires
+unwrap-start-requires c = search contents
+
 pub slice_bounds-check_entry_name-count-then-b-eq123 : goal.slice_bounds-check_entry_name-count-then-b-eq123
 slice_bounds-check_entry_name-count-then-b-eq123 c = search contents
 

@@ -1,45 +1,30 @@
-use native.Mathlib.Omega.{arith}
-use Rattle.rfc5464.proofs.Names.{path_none, path_space, path_cr, path_corrupt, within_starts, within_on, within_ends, within_done}
+use mathlib.Core.Path.{◌≡◌, sym, ◌∙◌}
+use mathlib.Core.Bool.{◌&&◌, false}
+use lib.ListN.{get_or}
+use borrow.Author.Rules.{rules}
+use Rattle.grammar.specs.EntryName.{is_entry_component_char}
+use Rattle.rfc5464.proofs.Names.{path_ends, walk_inside, walk_slash, path_stops, path_corrupt}
+use Rattle.rfc5464.proofs.check_path.Goals.{Joined-else-inside, else-inside-via-then-inside+else-is_entry_component_char, else-inside-via-else-inside}
 use Rattle.rfc5464.proofs.check_path.Goals as goal
 
-pub returns-then-name-l : goal.returns-then-name-l
-returns-then-name-l c = path_none c.if-name-l.true
+-- the byte at hand is none of a component
+outside : (c : Joined-else-inside) → c.loop-b.inside && is_entry_component_char (get_or c.args.name.now c.loop-b.b-index 0) ≡ false
+outside c = elim c.else-inside.branch [
+  | else-inside-via-then-inside+else-is_entry_component_char w ↦ rw (w.if-inside.true, sym w.is_entry_component_char.ensures ∙ w.if-is_entry_component_char.false)
+  | else-inside-via-else-inside w ↦ rw w.if-inside.false
+]
 
-pub bounds-name-l : goal.bounds-name-l
-bounds-name-l c = c.if-name-l.false
+pub loop-b-preserved-then-is_entry_component_char : goal.loop-b-preserved-then-is_entry_component_char
+loop-b-preserved-then-is_entry_component_char c = walk_inside c.loop-b.invariant c.loop-b-test.true c.if-inside.true c.is_entry_component_char.ensures c.if-is_entry_component_char.true
 
-pub returns-then-b-eq32 : goal.returns-then-b-eq32
-returns-then-b-eq32 c = path_space c.if-name-l.false c.if-b-eq32.true
+pub returns-in-32 : goal.returns-in-32
+returns-in-32 c = path_stops c.loop-b.invariant c.loop-b-test.true (outside (goal.at.returns-in-32 c).Joined-else-inside) c.in-32.is
 
-pub returns-then-b-eq13 : goal.returns-then-b-eq13
-returns-then-b-eq13 c = path_cr c.if-name-l.false c.if-b-eq32.false c.if-b-eq13.true
+pub returns-in_default : goal.returns-in_default
+returns-in_default c = let out = outside (goal.at.returns-in_default c).Joined-else-inside in search (path_corrupt, rules)
 
-pub returns-then-b-ne47 : goal.returns-then-b-ne47
-returns-then-b-ne47 c = path_corrupt c.if-name-l.false c.if-b-eq32.false c.if-b-eq13.false c.if-b-ne47.true
-
-pub overflow_add-i : goal.overflow_add-i
-overflow_add-i c = omega arith
-
-pub loop-i-init : goal.loop-i-init
-loop-i-init c = within_starts c.if-name-l.false c.if-b-eq32.false c.if-b-eq13.false c.if-b-ne47.false
-
-pub bounds-name-i : goal.bounds-name-i
-bounds-name-i c = c.loop-i-test.true
-
-pub is_entry_component_char-requires : goal.is_entry_component_char-requires
-is_entry_component_char-requires c = tt
-
-pub overflow_add-i-then-is_entry_component_char : goal.overflow_add-i-then-is_entry_component_char
-overflow_add-i-then-is_entry_component_char c = omega arith
-
-pub loop-i-smaller : goal.loop-i-smaller
-loop-i-smaller c = omega arith
-
-pub loop-i-preserved : goal.loop-i-preserved
-loop-i-preserved c = within_on c.loop-i.invariant c.loop-i-test.true c.is_entry_component_char.ensures c.if-is_entry_component_char.true
-
-pub returns-else-is_entry_component_char : goal.returns-else-is_entry_component_char
-returns-else-is_entry_component_char c = within_ends c.loop-i.invariant c.loop-i-test.true c.is_entry_component_char.ensures c.if-is_entry_component_char.false
+pub loop-b-preserved : goal.loop-b-preserved
+loop-b-preserved c = walk_slash c.loop-b.invariant c.loop-b-test.true (outside (goal.at.loop-b-preserved c).Joined-else-inside) c.in-47.is
 
 pub returns : goal.returns
-returns c = within_done c.loop-i.invariant c.loop-i-test.false
+returns c = path_ends c.loop-b.invariant c.loop-b-test.false

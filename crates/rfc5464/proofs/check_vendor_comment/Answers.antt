@@ -1,23 +1,25 @@
-use mathlib.Core.Path.{sym, ◌∙◌}
-use native.Mathlib.Omega.{arith}
+use mathlib.Core.Path.{refl}
+use mathlib.Core.Bool.{Bool, false}
 use Rattle.grammar.specs.Text.{ascii}
-use Rattle.rfc5464.proofs.Names.{begins_inside}
+use Rattle.grammar.specs.EntryName.{check_path, check_vendor, check_vendor_comment, after_word}
+use Rattle.rfc5464.proofs.Names.{behind, without}
 use Rattle.rfc5464.proofs.check_vendor_comment.Goals as goal
 
-pub overflow_add-result : goal.overflow_add-result
-overflow_add-result c = omega (arith, begins_inside (ascii "/comment") c.args.name.now c.args.l c.requires (sym c.starts_with.ensures ∙ c.if-starts_with.true), c.well_formed)
+pub returns-in-Some : goal.returns-in-Some
+unfolding check_vendor_comment
+returns-in-Some c = let found = c.in-Some.ensures.cases in behind (ascii "/comment") c.args.name.now (check_path false) _ found.0 found.1 c.check_path.ensures
 
-pub returns-then-starts_with : goal.returns-then-starts_with
-returns-then-starts_with c = rw (sym c.starts_with.ensures ∙ c.if-starts_with.true)
+pub returns-in-Some-strip_prefix : goal.returns-in-Some-strip_prefix
+unfolding check_vendor_comment
+returns-in-Some-strip_prefix c =
+    let found = c.in-Some-strip_prefix.ensures.cases in
+    let other : Unit {0} → Bool = λ u. after_word (ascii "/vendor") c.args.name.now check_vendor (λ u. false) in
+    without (ascii "/comment") c.args.name.now (check_path false) other c.in_default.ensures.cases
+    (behind (ascii "/vendor") c.args.name.now check_vendor (λ u. false) found.0 found.1 c.check_vendor.ensures)
 
-pub overflow_add-l : goal.overflow_add-l
-overflow_add-l c = omega (arith, begins_inside (ascii "/vendor") c.args.name.now c.args.l c.requires (sym c.starts_with-2.ensures ∙ c.if-starts_with-2.true), c.well_formed)
-
-pub check_vendor-requires : goal.check_vendor-requires
-check_vendor-requires c = begins_inside (ascii "/vendor") c.args.name.now c.args.l c.requires (sym c.starts_with-2.ensures ∙ c.if-starts_with-2.true)
-
-pub returns-then-starts_with-2 : goal.returns-then-starts_with-2
-returns-then-starts_with-2 c = rw (sym c.starts_with.ensures ∙ c.if-starts_with.false, sym c.starts_with-2.ensures ∙ c.if-starts_with-2.true) c.check_vendor.ensures.is
-
-pub returns : goal.returns
-returns c = rw (sym c.starts_with.ensures ∙ c.if-starts_with.false, sym c.starts_with-2.ensures ∙ c.if-starts_with-2.false)
+pub returns-in-None : goal.returns-in-None
+unfolding check_vendor_comment
+returns-in-None c =
+    let other : Unit {0} → Bool = λ u. after_word (ascii "/vendor") c.args.name.now check_vendor (λ u. false) in
+    without (ascii "/comment") c.args.name.now (check_path false) other c.in_default.ensures.cases
+    (without (ascii "/vendor") c.args.name.now check_vendor (λ u. false) c.in-None.ensures.cases refl)

@@ -1,14 +1,14 @@
-use Rattle.grammar.specs.Rfc5464.{entry_value}
 use Rattle.table.proofs.Bounds.{paid}
-use Rattle.table.proofs.Search.{structure}
+use Rattle.table.proofs.Search.{passed}
+use Rattle.grammar.specs.Notation.{◌⋯◌, sp}
+use Rattle.grammar.specs.Core.{nstring}
+use Rattle.grammar.specs.Rfc5464.{entry_name, entry_value}
 use Rattle.rfc5464.proofs.entry_value.Goals as goal
 
-pub returns-then-c-ge-FAILED : goal.returns-then-c-ge-FAILED
-returns-then-c-ge-FAILED c = search structure
-
-pub name_and_value-r-requires : goal.name_and_value-r-requires
-name_and_value-r-requires c = search structure
+pub parent-requires-clause-holds : goal.parent-requires-clause-holds
+unfolding paid sp entry_name nstring
+parent-requires-clause-holds c = (0, entry_name ⋯ sp ⋯ nstring, search passed)
 
 pub returns : goal.returns
 unfolding paid entry_value
-returns c = search structure
+returns c = search passed

@@ -1,16 +1,14 @@
+use Rattle.grammar.specs.Notation.{◌⋯◌, any_case, space1}
+use Rattle.grammar.specs.Core.{sequence_set}
 use Rattle.grammar.specs.Rfc7162.{vanished}
 use Rattle.table.proofs.Bounds.{paid}
-use Rattle.table.proofs.Search.{structure}
+use Rattle.table.proofs.Search.{passed}
 use Rattle.rfc7162.proofs.vanished.Goals as goal
 
-pub returns-then-c-ge-FAILED : goal.returns-then-c-ge-FAILED
-unfolding paid vanished
-returns-then-c-ge-FAILED c = search structure
-
-pub vanished_fields-r-requires : goal.vanished_fields-r-requires
-unfolding paid vanished
-vanished_fields-r-requires c = search structure
+pub parent-requires-clause-holds : goal.parent-requires-clause-holds
+unfolding paid space1 sequence_set
+parent-requires-clause-holds c = (0, any_case "VANISHED" ⋯ space1 ⋯ sequence_set, search passed)
 
 pub returns : goal.returns
-unfolding paid vanished
-returns c = search structure
+unfolding paid space1 sequence_set vanished
+returns c = search passed

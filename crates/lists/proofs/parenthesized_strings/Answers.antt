@@ -1,7 +1,0 @@
-use Rattle.grammar.specs.Notation.{parenthesized_nonempty_list}
-use Rattle.table.proofs.Search.{line}
-use Rattle.lists.proofs.parenthesized_strings.Goals as goal
-
-pub returns : goal.returns
-unfolding parenthesized_nonempty_list
-returns c = search line

@@ -1,8 +1,0 @@
-use Rattle.table.proofs.Search.{line}
-use Rattle.rfc4315.proofs.comma_member.Goals as goal
-
-pub returns-then-r-ge-FAILED : goal.returns-then-r-ge-FAILED
-returns-then-r-ge-FAILED c = search line
-
-pub returns : goal.returns
-returns c = search line
