@@ -61,7 +61,8 @@ pub fn is_parameter(s: &[u8], word: &[u8]) -> bool
     }
 }
 
-// The value of digits, where all are digits and 32 bits hold it; `parse` takes a sign too.
+// The value of digits, where all are digits and 32 bits hold it; `parse` takes a sign too. Here and below a match, which the check proves
+// alone: a closure would repeat the clauses of what it calls.
 #[tactic(auto, using(crate::proofs::Numerals::no_text, crate::proofs::Numerals::empty, crate::proofs::Numerals::signed, crate::proofs::Numerals::parsed))]
 fn decimal(word: &[u8]) -> Option<u32>
     ensures { result ≡ decimal word.now }

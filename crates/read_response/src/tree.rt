@@ -90,7 +90,7 @@ impl fmt::Display for Words {
     }
 }
 
-// The section texts, by word a of their nodes.
+// The section texts, by word a of their nodes: a number, here and below, of which a table may hold any.
 fn section_text_name(which: u32) -> &'static str {
     match which {
         1 => "HEADER",

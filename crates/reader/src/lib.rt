@@ -110,8 +110,9 @@ fn read_by(number: u32, s: &[u8], scratch: &mut [u32], t: &mut [u32]) -> Answer
     }
 }
 
-// A reading by way of N words of the reader's own. They are cleared first, and to clear many takes longer than a short reading
-// does: few for a rule whose readings have few nodes however long the buffer is, few for a short buffer.
+// A reading by way of N words of the reader's own: an array and no Vec, so that no reading can fail for want of memory. They are cleared
+// first, and to clear many takes longer than a short reading does: few for a rule whose readings have few nodes however long the buffer is,
+// few for a short buffer.
 fn read_by_words<const N: usize>(number: u32, s: &[u8], t: &mut [u32]) -> Answer
     requires an_array { N * 4 < 2 ^ 63 }
     requires in_limit { length s.now ≤ length_limit }

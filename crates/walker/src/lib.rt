@@ -1,4 +1,5 @@
-//! Walking a table of nodes: first with a table and a place as parameters, then by one thin value that keeps both.
+//! Walking a table of nodes: first with a table and a place as parameters, in public functions that stay as they are, then by one thin
+//! value that keeps both.
 //! The table may hold anything: a place outside it and counts that do not fit are answered, never followed. What each
 //! function answers on every table is specs/Walk.antt; that on a table of ours it finds exactly the trees, proofs/Trees.antt.
 
