@@ -2,6 +2,8 @@
 
 ghost use Rattle.std.specs.Prelude.{◌≡◌, ◌-◌, ◌<◌, ◌≤◌};
 ghost use Rattle.std.specs.Iterator.{at_most};
+ghost use Rattle.walker.specs.Walk.{node_at, kind_at};
+ghost use Rattle.command_line.specs.Levels.{IsKindOf};
 
 use grammar::Kind;
 use walker::Node;
@@ -15,16 +17,20 @@ pub struct Item<'a> {
 }
 
 impl<'a> Item<'a> {
-    pub fn node(self) -> Option<Node> {
+    pub(crate) fn node(self) -> Option<Node>
+        ensures { result ≡ node_at self.entry.table.now self.entry.at }
+    {
         walker::look(self.table, self.at)
     }
 
-    pub fn kind(self) -> Option<Kind> {
+    pub(crate) fn kind(self) -> Option<Kind>
+        ensures { IsKindOf (kind_at self.entry.table.now self.entry.at) result }
+    {
         command_line::kind_of(self.table, self.at)
     }
 
     // The bytes that it names.
-    pub fn view(self) -> &'a [u8] {
+    pub(crate) fn view(self) -> &'a [u8] {
         views::view(self.bytes, self.table, self.at)
     }
 
@@ -39,11 +45,11 @@ impl<'a> Item<'a> {
     }
 
     // The child that has n others before it; the node itself where it has no such child, and no field has the kind of a body.
-    pub fn child(self, n: usize) -> Item<'a> {
+    pub(crate) fn child(self, n: usize) -> Item<'a> {
         walker::nth_child(self.table, self.at, n).map_or(self, |child| self.moved(child))
     }
 
-    pub fn children(self) -> Children<'a> {
+    pub(crate) fn children(self) -> Children<'a> {
         let limit = walker::end_of(self.table, self.at).unwrap_or(0);
         let first = walker::first_child(self.table, self.at).unwrap_or(limit);
         Children {

@@ -111,6 +111,6 @@ fn names(kind: Kind) -> &'static [&'static str] {
 }
 
 // The name of the next field of a structure of which so many have been met, where its kind has fields.
-pub fn field_name(parent: Level) -> Option<&'static str> {
+pub(crate) fn field_name(parent: Level) -> Option<&'static str> {
     names(parent.kind?).get(parent.met).copied()
 }
