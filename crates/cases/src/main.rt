@@ -4,7 +4,8 @@
 #![tactic(auto)]
 
 use reader::Answer;
-use std::io::{self, BufRead, BufReader, BufWriter, Read, Write};
+use std::alloc::AllocError;
+use std::io::{self, BufRead, BufReader, BufWriter, Read, Stdin, Stdout, Write};
 use std::{fmt, str};
 
 // The most bytes of a line.
@@ -17,7 +18,7 @@ const MOST: usize = 65_536;
 const WORDS: usize = 262_144;
 
 // What of the input and of the output is held at once.
-const BUFFER: usize = 65_536;
+const BUFFER: usize = 16_384;
 
 // What a table's words are before a reading.
 const MARK: u32 = 2_863_311_530;
@@ -118,19 +119,35 @@ impl fmt::Display for Reading<'_> {
 
 // ----- lines -----
 
-// What each line needs, so that it is made once.
+// A reader that is not read again behind its end. A read that fails is its end too.
+#[derive(Drop)]
+struct Fused<R> {
+    reader: R,
+    ended: bool,
+}
+
+impl<R: Read> Read for Fused<R> {
+    fn read(&mut self, bytes: &mut [u8]) -> io::Result<usize> {
+        if self.ended {
+            return Ok(0);
+        }
+        let count = self.reader.read(bytes).unwrap_or(0);
+        self.ended = count == 0;
+        Ok(count)
+    }
+}
+
+// What each line needs. It is made once, at its largest: memory is wanting at the start or not at all.
 #[derive(Drop)]
 struct Room {
     line: Vec<u8>,
-    // a read failed
-    ended: bool,
     bytes: Vec<u8>,
     table: Vec<u32>,
 }
 
 impl Room {
-    // The line that is held; a line that asks for no reading is bad. Each answer is written at once, and a write that fails is let be.
-    fn answer<W: Write>(&mut self, out: &mut W) {
+    // The line that is held; a line that asks for no reading is bad. Each answer is written at once.
+    fn answer<W: Write>(&mut self, out: &mut W) -> io::Result<()> {
         let asked = parse(self.line.as_slice(), &mut self.bytes);
         let bytes = self.bytes.as_slice();
         if let Some(Asked { rule, words }) = asked
@@ -138,49 +155,66 @@ impl Room {
         {
             table.fill(MARK);
             let answer = reader::read(rule, bytes, table);
-            let _ = writeln!(out, "{}", Reading { answer, table });
+            writeln!(out, "{}", Reading { answer, table })?;
         } else {
-            let _ = writeln!(out, "bad line");
+            writeln!(out, "bad line")?;
         }
-        let _ = out.flush();
+        out.flush()
     }
 
-    // The next line without its end, if there is one; of one that is too long no more is held than shows that.
-    fn take_line<R: BufRead>(&mut self, input: &mut R) -> bool {
+    // The next line without its end, if there is one; of one that is too long no more is held than shows that. Of a
+    // `Fused` reader no read fails, so an error is a want of memory.
+    fn take_line<R: BufRead>(&mut self, input: &mut R) -> Result<bool, AllocError> {
         self.line.clear();
-        if self.ended {
-            return false;
-        }
         let mut start = input.by_ref().take(LONGEST as u64 + 1);
-        self.ended = start.read_until(b'\n', &mut self.line).is_err();
+        if start.read_until(b'\n', &mut self.line).is_err() {
+            return Err(AllocError);
+        }
         if self.line.is_empty() {
-            return false;
+            return Ok(false);
         }
         if self.line.as_slice().last() == Some(&b'\n') {
             self.line.pop();
         } else if LONGEST < self.line.len() {
             let _ = input.skip_until(b'\n');
         }
-        true
+        Ok(true)
     }
 }
 
-// Answers each line of standard input. Nothing says that the input ends, and a loop has to: its turns are counted.
-fn main(rt: HostRuntime) -> io::Result<()> {
-    let alloc = rt.alloc();
-    let mut input = BufReader::with_capacity(alloc, BUFFER, rt.stdin())?;
-    let mut out = BufWriter::with_capacity(alloc, BUFFER, io::writer(&rt))?;
-    let mut room = Room {
-        line: Vec::new(alloc),
+// Standard input. It fails for want of memory alone, and so does output.
+fn buffered_input(rt: &HostRuntime) -> Result<BufReader<Fused<Stdin>>, AllocError> {
+    let stdin = Fused {
+        reader: rt.stdin(),
         ended: false,
+    };
+    BufReader::with_capacity(rt.alloc(), BUFFER, stdin).map_err(|_| AllocError)
+}
+
+// Standard output, with nothing held.
+fn buffered_output(rt: &HostRuntime) -> Result<BufWriter<Stdout>, AllocError> {
+    BufWriter::with_capacity(rt.alloc(), BUFFER, rt.stdout()).map_err(|_| AllocError)
+}
+
+// Answers each line of standard input. Nothing says that the input ends, and a loop has to: its turns are counted. A write that fails is let
+// be: what is left of its answer is let go, so that it does not stand before the next.
+fn main(rt: HostRuntime) -> Result<(), AllocError> {
+    let alloc = rt.alloc();
+    let mut input = buffered_input(&rt)?;
+    let mut out = buffered_output(&rt)?;
+    let mut room = Room {
+        line: Vec::with_capacity(alloc, LONGEST + 1)?,
         bytes: Vec::with_capacity(alloc, MOST)?,
         table: vec![in alloc; MARK; WORDS]?,
     };
     for _ in 0..u64::MAX {
-        if !room.take_line(&mut input) {
+        if !room.take_line(&mut input)? {
             break;
         }
-        room.answer(&mut out);
+        if room.answer(&mut out).is_err() {
+            let _ = out.into_parts();
+            out = buffered_output(&rt)?;
+        }
     }
     Ok(())
 }
