@@ -1,31 +1,47 @@
 // Bytes made printable, and counts.
 
-ghost use Rattle.std.specs.Prelude.{Some};
-ghost use Rattle.command_line.specs.Printed.{escape, escaped, quoted, cut, counted};
+ghost use Rattle.std.specs.Prelude.{◌≡◌, ◌<◌, false, Some};
+ghost use Rattle.std.specs.Fmt.{WritesOnOk, digit_glyph};
+ghost use Rattle.std.specs.Str.{IsAscii};
+ghost use Rattle.command_line.specs.Printed.{plain, escape, escaped, quoted, cut, counted};
 
-use std::fmt;
+use std::{fmt, str};
 
-// A byte as it is written.
-#[derive(Clone, Copy)]
-struct Byte(u8);
+// A byte that stands for itself.
+fn is_plain(b: u8) -> bool
+    ensures { result ≡ plain b }
+{
+    matches!(b, b' '..=b'~') && !matches!(b, b'"' | b'\\')
+}
 
-impl fmt::Display for Byte {
-    ghost output = { λ b. Some (escape b.0) };
+// ASCII as text.
+fn text(ascii: &[u8]) -> &str
+    requires { IsAscii ascii.now }
+    ensures { result.now ≡ ascii.now }
+{
+    str::from_utf8(ascii).unwrap()
+}
 
-    fn fmt<W: fmt::Write>(&self, f: &mut fmt::Formatter<W>) -> fmt::Result {
-        let Byte(b) = *self;
-        match b {
-            b'\r' => f.write_str("\\r"),
-            b'\n' => f.write_str("\\n"),
-            b'"' => f.write_str("\\\""),
-            b'\\' => f.write_str("\\\\"),
-            b' '..=b'~' => f.write_char(b as char),
-            _ => {
-                let high = b / 16;
-                let low = b % 16;
-                write!(f, "\\x{high:x}{low:x}")
-            }
-        }
+// A number below 16 as a digit: by the number formatter an escape takes twice the instructions.
+fn hex_digit(d: u8) -> u8
+    requires { d < 16 }
+    ensures { result ≡ digit_glyph false d }
+{
+    if d < 10 { b'0' + d } else { b'a' - 10 + d }
+}
+
+// Any other byte.
+#[tactic(auto, using(crate::proofs::Plain::escape_hex))]
+fn write_escape<W: fmt::Write>(f: &mut fmt::Formatter<W>, b: u8) -> fmt::Result
+    requires { plain b ≡ false }
+    ensures { WritesOnOk W.write_str_gives f.old result (escape b) f.new }
+{
+    match b {
+        b'\r' => f.write_str("\\r"),
+        b'\n' => f.write_str("\\n"),
+        b'"' => f.write_str("\\\""),
+        b'\\' => f.write_str("\\\\"),
+        _ => f.write_str(text(&[b'\\', b'x', hex_digit(b / 16), hex_digit(b % 16)])),
     }
 }
 
@@ -37,10 +53,17 @@ impl fmt::Display for Escaped<'_> {
     ghost output = { λ x. Some (escaped x.0.now) };
 
     fn fmt<W: fmt::Write>(&self, f: &mut fmt::Formatter<W>) -> fmt::Result {
-        for b in self.0 {
-            write!(f, "{}", Byte(*b))?;
+        let Escaped(bytes) = *self;
+        // Plain bytes side by side are written together: a write for each takes four times the instructions.
+        let mut start = 0;
+        for (at, b) in bytes.iter().enumerate() {
+            if !is_plain(*b) {
+                f.write_str(text(&bytes[start..at]))?;
+                write_escape(f, *b)?;
+                start = at + 1;
+            }
         }
-        Ok(())
+        f.write_str(text(&bytes[start..]))
     }
 }
 
