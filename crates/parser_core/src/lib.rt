@@ -112,8 +112,8 @@ pub fn after<F: Fn(&[u8], IResult, &mut [u32]) -> IResult>(
     requires callable { Callable F.Fn read }
     ensures { Following F.Fn byte read s.now c result t.old t.new }
 {
-    let r = char(s, c, byte);
-    read(s, r, t)
+    let next = char(s, c, byte)?;
+    read(s, Ok(next), t)
 }
 
 // A list of what `item` reads, with this byte between two of them.
@@ -262,6 +262,10 @@ fn too_large(s: &[u8], at: usize) -> Failure
 fn with_digit(value: u64, digit: u64, largest: u64) -> Option<u64>
     ensures { result ≡ value_of largest (value * 10 + digit) }
 {
+    // Nearly every digit: one test, where the rest makes three.
+    if value < largest / 10 && digit < 10 {
+        return Some(value * 10 + digit);
+    }
     let value = value.checked_mul(10)?.checked_add(digit)?;
     if largest < value { None } else { Some(value) }
 }
@@ -459,11 +463,21 @@ pub fn literal(s: &[u8], c: IResult, t: &mut [u32]) -> IResult
 }
 
 // string = quoted / literal, by the first byte
+#[inline(always)]
 pub fn string(s: &[u8], c: IResult, t: &mut [u32]) -> IResult
     requires { Stands 0 s.now c }
     ensures { Reads 0 string s.now c result t.old t.new }
 {
     let c = c?;
+    string_from(s, c, t)
+}
+
+// The same from a cursor, as `nstring_from`.
+#[inline(never)]
+fn string_from(s: &[u8], c: Cursor, t: &mut [u32]) -> IResult
+    requires { Stands 0 s.now (Ok c) }
+    ensures { Reads 0 string s.now (Ok c) result t.old t.new }
+{
     if s.len() <= c.place {
         return Err(Failure::Unfinished { wanted: 0 });
     }
@@ -474,6 +488,7 @@ pub fn string(s: &[u8], c: IResult, t: &mut [u32]) -> IResult
 }
 
 // SP string
+#[inline(always)]
 pub fn sp_string(s: &[u8], c: IResult, t: &mut [u32]) -> IResult
     requires { Stands 0 s.now c }
     ensures { Reads 0 (sp ⋯ string) s.now c result t.old t.new }
@@ -542,11 +557,21 @@ pub fn nil_or<F: Fn(&[u8], IResult, &mut [u32]) -> IResult>(
 }
 
 // nstring = string / nil, by the first byte
+#[inline(always)]
 pub fn nstring(s: &[u8], c: IResult, t: &mut [u32]) -> IResult
     requires { Stands 0 s.now c }
     ensures { Reads 0 nstring s.now c result t.old t.new }
 {
     let c = c?;
+    nstring_from(s, c, t)
+}
+
+// The same from a cursor: as two numbers it needs no memory on its way, and most fields are read here.
+#[inline(never)]
+fn nstring_from(s: &[u8], c: Cursor, t: &mut [u32]) -> IResult
+    requires { Stands 0 s.now (Ok c) }
+    ensures { Reads 0 nstring s.now (Ok c) result t.old t.new }
+{
     if s.len() <= c.place {
         return Err(Failure::Unfinished { wanted: 0 });
     }

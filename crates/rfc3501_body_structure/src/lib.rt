@@ -4,13 +4,14 @@
 
 #![tactic(auto)]
 
+ghost use Rattle.std.specs.Prelude.{Ok};
 ghost use Rattle.grammar.specs.Notation.{◌⋯◌, ◌or◌, any_case, sp, many1, paren_delimited};
 ghost use Rattle.grammar.specs.Grammar.{ref, a_body};
 ghost use Rattle.grammar.specs.Core.{number, string};
 ghost use Rattle.grammar.specs.BodyStructure.{body_fields, body_ext_1part, body_ext_mpart, body_type_text, message_fields, body_type_message, body_type_basic, body_type_multipart, msg_att_body_structure};
 ghost use Rattle.table.specs.Promise.{Stands, Reads, Skips};
 
-use table::{Failure, IResult};
+use table::{Cursor, Failure, IResult};
 
 // SP body-fields
 fn sp_body_fields(s: &[u8], c: IResult, t: &mut [u32]) -> IResult
@@ -41,13 +42,14 @@ fn text_fields(s: &[u8], c: IResult, t: &mut [u32], left: usize) -> IResult
 }
 
 // body-type-text
-fn body_type_text(s: &[u8], c: IResult, t: &mut [u32], left: usize) -> IResult
-    requires { Stands 0 s.now c }
-    ensures { Reads left body_type_text s.now c result t.old t.new }
+#[inline(never)]
+fn body_type_text(s: &[u8], c: Cursor, t: &mut [u32], left: usize) -> IResult
+    requires { Stands 0 s.now (Ok c) }
+    ensures { Reads left body_type_text s.now (Ok c) result t.old t.new }
 {
     table::parent(
         s,
-        c,
+        Ok(c),
         t,
         grammar::KIND_TEXT,
         |s: &[u8], c: IResult, t: &mut [u32]| -> IResult
@@ -77,13 +79,14 @@ fn basic_fields(s: &[u8], c: IResult, t: &mut [u32], left: usize) -> IResult
 }
 
 // body-type-basic
-fn body_type_basic(s: &[u8], c: IResult, t: &mut [u32], left: usize) -> IResult
-    requires { Stands 0 s.now c }
-    ensures { Reads left body_type_basic s.now c result t.old t.new }
+#[inline(never)]
+fn body_type_basic(s: &[u8], c: Cursor, t: &mut [u32], left: usize) -> IResult
+    requires { Stands 0 s.now (Ok c) }
+    ensures { Reads left body_type_basic s.now (Ok c) result t.old t.new }
 {
     table::parent(
         s,
-        c,
+        Ok(c),
         t,
         grammar::KIND_BASIC,
         |s: &[u8], c: IResult, t: &mut [u32]| -> IResult
@@ -94,6 +97,7 @@ fn body_type_basic(s: &[u8], c: IResult, t: &mut [u32], left: usize) -> IResult
 }
 
 // media-message SP body-fields SP envelope
+#[inline(never)]
 fn message_fields(s: &[u8], c: IResult, t: &mut [u32]) -> IResult
     requires { Stands 0 s.now c }
     ensures { Reads 0 message_fields s.now c result t.old t.new }
@@ -104,7 +108,9 @@ fn message_fields(s: &[u8], c: IResult, t: &mut [u32]) -> IResult
     rfc3501_envelope::envelope(s, r, t)
 }
 
-// ----- the circle: a body holds messages and multiparts, which hold bodies; each begins with its guard, or a failure would walk the levels -----
+// ----- the circle: a body holds messages and multiparts, which hold bodies; `body` begins with its guard, or a failure would walk the levels.
+// Callers' stacks are short: one frame a level, so the two structures in the circle are made by hand, what holds no body stands out of line,
+// and what holds one in line (docs/WORK.md) -----
 
 // Where no level is left: a `(` is too deep, another byte fails.
 fn too_deep(s: &[u8], c: IResult) -> IResult
@@ -136,7 +142,7 @@ fn body_inside(s: &[u8], c: IResult, t: &mut [u32], left: usize) -> IResult
     ensures { Reads left (paren_delimited (body_type_text or body_type_message or body_type_basic or body_type_multipart)) s.now c result t.old t.new }
 {
     let c = parser_core::char(s, c, b'(')?;
-    let r = body_types(s, Ok(c), t, left);
+    let r = body_types(s, c, t, left);
     parser_core::char(s, r, b')')
 }
 
@@ -145,48 +151,41 @@ const BODY_OPENS: u8 = b'(';
 
 // text, message, basic, multipart, in that order
 #[cycle(body_circle)]
-fn body_types(s: &[u8], c: IResult, t: &mut [u32], left: usize) -> IResult
-    requires { Stands 0 s.now c }
-    ensures { Reads left (body_type_text or body_type_message or body_type_basic or body_type_multipart) s.now c result t.old t.new }
+fn body_types(s: &[u8], c: Cursor, t: &mut [u32], left: usize) -> IResult
+    requires { Stands 0 s.now (Ok c) }
+    ensures { Reads left (body_type_text or body_type_message or body_type_basic or body_type_multipart) s.now (Ok c) result t.old t.new }
 {
-    let c = c?;
     if s.len() <= c.place {
         return Err(Failure::Unfinished { wanted: 0 });
     }
     if s[c.place] == BODY_OPENS {
-        return body_type_multipart(s, Ok(c), t, left);
+        return body_type_multipart(s, c, t, left);
     }
-    let r = body_type_text(s, Ok(c), t, left);
+    let r = body_type_text(s, c, t, left);
     let Err(Failure::Refused) = r else {
         return r;
     };
-    let r = body_type_message(s, Ok(c), t, left);
+    let r = body_type_message(s, c, t, left);
     let Err(Failure::Refused) = r else {
         return r;
     };
-    body_type_basic(s, Ok(c), t, left)
+    body_type_basic(s, c, t, left)
 }
 
 // body-type-msg
 #[cycle(body_circle)]
-fn body_type_message(s: &[u8], c: IResult, t: &mut [u32], left: usize) -> IResult
-    requires { Stands 0 s.now c }
-    ensures { Reads left body_type_message s.now c result t.old t.new }
+fn body_type_message(s: &[u8], c: Cursor, t: &mut [u32], left: usize) -> IResult
+    requires { Stands 0 s.now (Ok c) }
+    ensures { Reads left body_type_message s.now (Ok c) result t.old t.new }
 {
-    table::parent(
-        s,
-        c,
-        t,
-        grammar::KIND_MESSAGE,
-        |s: &[u8], c: IResult, t: &mut [u32]| -> IResult
-            requires { Stands 0 s.now c }
-            ensures { Reads left (message_fields ⋯ sp ⋯ ref a_body ⋯ sp ⋯ number ⋯ body_ext_1part) s.now c result t.old t.new }
-        { message_body(s, c, t, left) },
-    )
+    let k = table::inside(t.len(), c);
+    let r = message_body(s, Ok(c.start()), &mut t[k..], left);
+    table::finish(t, grammar::KIND_MESSAGE, c, r)
 }
 
 // message-fields SP body SP body-fld-lines [SP body-ext-1part]
 #[cycle(body_circle)]
+#[inline(always)]
 fn message_body(s: &[u8], c: IResult, t: &mut [u32], left: usize) -> IResult
     requires { Stands 0 s.now c }
     ensures { Reads left (message_fields ⋯ sp ⋯ ref a_body ⋯ sp ⋯ number ⋯ body_ext_1part) s.now c result t.old t.new }
@@ -199,6 +198,7 @@ fn message_body(s: &[u8], c: IResult, t: &mut [u32], left: usize) -> IResult
 
 // SP body
 #[cycle(body_circle)]
+#[inline(always)]
 fn sp_body(s: &[u8], c: IResult, t: &mut [u32], left: usize) -> IResult
     requires { Stands 0 s.now c }
     ensures { Reads left (sp ⋯ ref a_body) s.now c result t.old t.new }
@@ -209,24 +209,18 @@ fn sp_body(s: &[u8], c: IResult, t: &mut [u32], left: usize) -> IResult
 
 // body-type-mpart
 #[cycle(body_circle)]
-fn body_type_multipart(s: &[u8], c: IResult, t: &mut [u32], left: usize) -> IResult
-    requires { Stands 0 s.now c }
-    ensures { Reads left body_type_multipart s.now c result t.old t.new }
+fn body_type_multipart(s: &[u8], c: Cursor, t: &mut [u32], left: usize) -> IResult
+    requires { Stands 0 s.now (Ok c) }
+    ensures { Reads left body_type_multipart s.now (Ok c) result t.old t.new }
 {
-    table::parent(
-        s,
-        c,
-        t,
-        grammar::KIND_MULTIPART,
-        |s: &[u8], c: IResult, t: &mut [u32]| -> IResult
-            requires { Stands 0 s.now c }
-            ensures { Reads left (many1 (ref a_body) ⋯ sp ⋯ string ⋯ body_ext_mpart) s.now c result t.old t.new }
-        { multipart_fields(s, c, t, left) },
-    )
+    let k = table::inside(t.len(), c);
+    let r = multipart_fields(s, Ok(c.start()), &mut t[k..], left);
+    table::finish(t, grammar::KIND_MULTIPART, c, r)
 }
 
 // 1*body SP media-subtype [SP body-ext-mpart]
 #[cycle(body_circle)]
+#[inline(always)]
 fn multipart_fields(s: &[u8], c: IResult, t: &mut [u32], left: usize) -> IResult
     requires { Stands 0 s.now c }
     ensures { Reads left (many1 (ref a_body) ⋯ sp ⋯ string ⋯ body_ext_mpart) s.now c result t.old t.new }

@@ -4,23 +4,35 @@
 
 #![tactic(auto)]
 
+ghost use Rattle.std.specs.Prelude.{Ok};
 ghost use Rattle.grammar.specs.Notation.{◌⋯◌, sp};
 ghost use Rattle.grammar.specs.Core.{nstring};
 ghost use Rattle.grammar.specs.BodyStructure.{body_extension, extension_list, body_param, body_disposition, body_lang, body_ext_1part, body_ext_mpart};
 ghost use Rattle.rfc3501_extension.specs.Tails.{from_extension, from_loc, from_lang, from_dsp};
 ghost use Rattle.table.specs.Promise.{Stands, Reads};
 
-use table::{Failure, IResult};
+use table::{Cursor, Failure, IResult};
 
 // ----- extensions: a circle, each function of which begins with its guard, or a failure would walk the levels -----
 
 // body-extension = number / nstring / "(" body-extension *(SP body-extension) ")", by the first byte
 #[cycle(extension_circle)]
+#[inline(always)]
 fn extension(s: &[u8], c: IResult, t: &mut [u32], left: usize) -> IResult
     requires { Stands 0 s.now c }
     ensures { Reads left body_extension s.now c result t.old t.new }
 {
     let c = c?;
+    extension_at(s, c, t, left)
+}
+
+// The same from a cursor, as `parser_core::nstring` has it.
+#[cycle(extension_circle)]
+#[inline(never)]
+fn extension_at(s: &[u8], c: Cursor, t: &mut [u32], left: usize) -> IResult
+    requires { Stands 0 s.now (Ok c) }
+    ensures { Reads left body_extension s.now (Ok c) result t.old t.new }
+{
     if s.len() <= c.place {
         return Err(Failure::Unfinished { wanted: 0 });
     }

@@ -56,6 +56,10 @@ pub ended_skims : {d : ℕ} (g : G) {s : List ℕ} {c q r : IResult} {f : Failur
     → Goes d g s c r t t
 ended_skims {d} g {t = t} m x fails back = ended g (at_depth d m (x.on t)) fails back
 
+-- a cursor that a function is handed as it is
+pub itself : (r : IResult) → r ≡ r
+itself r = refl
+
 -- where the first link is not a single one
 pub early_back : {d : ℕ} {g h : G} {s : List ℕ} {c q r : IResult} {f : Failure} {t t₁ : List ℕ} → Goes d g s c q t t₁ → q ≡ Err f → r ≡ Err f → Goes d (seq g h) s c r t t₁
 early_back x fails back = named back (early x fails)

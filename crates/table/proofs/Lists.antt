@@ -376,6 +376,10 @@ module _ {d : ℕ} {g h : G} {s : List ℕ} {c : IResult} {at b e₀ : Cursor} {
         go (failure.Unfinished w) p = halts p (λ z. let y : More w ≡ Refused = ap step (sym p ∙ z) in cc)
         go failure.TooDeep p = halts p (λ z. let y : Deep ≡ Refused = ap step (sym p ∙ z) in cc)
 
+-- what ended the list, under the name of the answer that it was
+pub listed_of : {n : ℕ} {c e : Cursor} {last r q : IResult} {t t' : List ℕ} → r ≡ last → Listed n c e last q t t' → Listed n c e r q t t'
+listed_of {n} {c} {e} {q = q} {t = t} {t' = t'} is x = subst (λ (k : IResult). Listed n c e k q t t') (sym is) x
+
 -- the measure falls
 pub list_less : {d : ℕ} {h : G} {s : List ℕ} {e next : Cursor} {r : IResult} {t v : List ℕ} → Item d h → Stands 0 s (Ok e) → Goes d h s (Ok e) r t v → r ≡ Ok next
     → length s - next.place < length s - e.place

@@ -213,11 +213,10 @@ pub fn items<
     let mut e = first(s, Ok(c.start()), &mut t[k..])?;
     let mut count: u32 = 1;
     loop {
-        let r = next(s, Ok(e), &mut t[k..]);
-        let Ok(more) = r else {
-            return list(t, c, e, count, r);
-        };
-        e = more;
+        match next(s, Ok(e), &mut t[k..]) {
+            Ok(more) => e = more,
+            Err(failure) => return list(t, c, e, count, Err(failure)),
+        }
         count += 1;
     }
 }

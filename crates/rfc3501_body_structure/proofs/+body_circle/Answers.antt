@@ -14,7 +14,7 @@ use Rattle.table.proofs.Levels.{none_left}
 use Rattle.table.proofs.Lines.{first_link, named_stands, ended_skims, early_back, from_cursor, skims_from_cursor, levels_lines}
 use Rattle.table.proofs.Listable.{listable}
 use Rattle.table.proofs.Opens.{hungry}
-use Rattle.table.proofs.Search.{reads, passed, first_plain, spare_after}
+use Rattle.table.proofs.Search.{reads, structure, passed, first_plain, spare_after}
 use Rattle.rfc3501_body_structure.proofs.First.{body_done, types_text, types_message, types_basic, types_multipart}
 use Rattle.rfc3501_body_structure.proofs.+body_circle.Goals as goal
 
@@ -40,30 +40,26 @@ unfolding hungry body_type_text
 body_types-returns-then-s-c t c = search reads
 
 pub body_types-returns-then-s-c-eq-BODY_OPENS : goal.body_types-returns-then-s-c-eq-BODY_OPENS
-body_types-returns-then-s-c-eq-BODY_OPENS t c = types_multipart (went_on c.branch-c.ensures c.in_ok-c.is) (omega arith) c.if-s-c-eq-BODY_OPENS.true (from_cursor (went_on c.branch-c.ensures c.in_ok-c.is) c.body_type_multipart.ensures)
+body_types-returns-then-s-c-eq-BODY_OPENS t c = types_multipart refl (omega arith) c.if-s-c-eq-BODY_OPENS.true c.body_type_multipart.ensures
 
 pub body_types-returns-in_default : goal.body_types-returns-in_default
-body_types-returns-in_default t c = let other : c.body_type_text-r.result ≡ Err Refused → ⊥ = (λ e. grind rules) in types_text (from_cursor (went_on c.branch-c.ensures c.in_ok-c.is) c.body_type_text-r.ensures) other
+body_types-returns-in_default t c = let other : c.body_type_text-r.result ≡ Err Refused → ⊥ = (λ e. grind rules) in types_text c.body_type_text-r.ensures other
 
 pub body_types-returns-in_default-2 : goal.body_types-returns-in_default-2
-body_types-returns-in_default-2 t c = let other : c.body_type_text-r.result ≡ Err Refused → ⊥ = (λ e. grind rules) in types_text (from_cursor (went_on c.branch-c.ensures c.in_ok-c.is) c.body_type_text-r.ensures) other
+body_types-returns-in_default-2 t c = let other : c.body_type_text-r.result ≡ Err Refused → ⊥ = (λ e. grind rules) in types_text c.body_type_text-r.ensures other
 
 pub body_types-returns-in_default-r : goal.body_types-returns-in_default-r
-body_types-returns-in_default-r t c = let no_text : c.body_type_text-r.result ≡ Err Refused = grind rules in let other : c.body_type_message-r.result ≡ Err Refused → ⊥ = (λ e. grind rules) in types_message (from_cursor (went_on c.branch-c.ensures c.in_ok-c.is) c.body_type_message-r.ensures) other (from_cursor (went_on c.branch-c.ensures c.in_ok-c.is) c.body_type_text-r.ensures) no_text
+body_types-returns-in_default-r t c = let no_text : c.body_type_text-r.result ≡ Err Refused = grind rules in let other : c.body_type_message-r.result ≡ Err Refused → ⊥ = (λ e. grind rules) in types_message c.body_type_message-r.ensures other c.body_type_text-r.ensures no_text
 
 pub body_types-returns-in_default-r-2 : goal.body_types-returns-in_default-r-2
-body_types-returns-in_default-r-2 t c = let no_text : c.body_type_text-r.result ≡ Err Refused = grind rules in let other : c.body_type_message-r.result ≡ Err Refused → ⊥ = (λ e. grind rules) in types_message (from_cursor (went_on c.branch-c.ensures c.in_ok-c.is) c.body_type_message-r.ensures) other (from_cursor (went_on c.branch-c.ensures c.in_ok-c.is) c.body_type_text-r.ensures) no_text
+body_types-returns-in_default-r-2 t c = let no_text : c.body_type_text-r.result ≡ Err Refused = grind rules in let other : c.body_type_message-r.result ≡ Err Refused → ⊥ = (λ e. grind rules) in types_message c.body_type_message-r.ensures other c.body_type_text-r.ensures no_text
 
 pub body_types-returns : goal.body_types-returns
-body_types-returns t c = let no_text : c.body_type_text-r.result ≡ Err Refused = grind rules in let no_message : c.body_type_message-r.result ≡ Err Refused = grind rules in types_basic (went_on c.branch-c.ensures c.in_ok-c.is) (omega arith) c.if-s-c-eq-BODY_OPENS.false (from_cursor (went_on c.branch-c.ensures c.in_ok-c.is) c.body_type_text-r.ensures) no_text (from_cursor (went_on c.branch-c.ensures c.in_ok-c.is) c.body_type_message-r.ensures) no_message (from_cursor (went_on c.branch-c.ensures c.in_ok-c.is) c.body_type_basic.ensures)
-
-pub body_type_message-parent-requires-clause-holds : goal.body_type_message-parent-requires-clause-holds
-unfolding paid body_type_message
-body_type_message-parent-requires-clause-holds t c = (c.args.left, message_fields ⋯ sp ⋯ ref a_body ⋯ sp ⋯ number ⋯ body_ext_1part, search passed)
+body_types-returns t c = let no_text : c.body_type_text-r.result ≡ Err Refused = grind rules in let no_message : c.body_type_message-r.result ≡ Err Refused = grind rules in types_basic refl (omega arith) c.if-s-c-eq-BODY_OPENS.false c.body_type_text-r.ensures no_text c.body_type_message-r.ensures no_message c.body_type_basic.ensures
 
 pub body_type_message-returns : goal.body_type_message-returns
 unfolding paid body_type_message
-body_type_message-returns t c = c.parent.ensures.goes c.args.left (message_fields ⋯ sp ⋯ ref a_body ⋯ sp ⋯ number ⋯ body_ext_1part) (search passed)
+body_type_message-returns t c = search structure
 
 pub message_body-returns-in_err-c : goal.message_body-returns-in_err-c
 unfolding plain number sp message_fields
@@ -85,13 +81,9 @@ pub sp_body-returns : goal.sp_body-returns
 unfolding plain sp
 sp_body-returns t c = and (at_depth _ tt (c.char.ensures.on _)) (from_cursor (went_on c.branch-c.ensures c.in_ok-c.is) c.body.ensures)
 
-pub body_type_multipart-parent-requires-clause-holds : goal.body_type_multipart-parent-requires-clause-holds
-unfolding paid body_type_multipart
-body_type_multipart-parent-requires-clause-holds t c = (c.args.left, many1 (ref a_body) ⋯ sp ⋯ string ⋯ body_ext_mpart, search passed)
-
 pub body_type_multipart-returns : goal.body_type_multipart-returns
 unfolding paid body_type_multipart
-body_type_multipart-returns t c = c.parent.ensures.goes c.args.left (many1 (ref a_body) ⋯ sp ⋯ string ⋯ body_ext_mpart) (search passed)
+body_type_multipart-returns t c = search structure
 
 pub multipart_fields-returns-in_err-c : goal.multipart_fields-returns-in_err-c
 multipart_fields-returns-in_err-c t c = early_back (early (early c.bodies.ensures (came_back c.branch-c.ensures c.in_err-c.is)) refl) refl (handed_back c.from_residual.ensures)

@@ -20,12 +20,6 @@ decreases-message_body l = 10 * l.left + 4
 abbrev pub decreases-multipart_fields : goal.decreases-multipart_fields
 decreases-multipart_fields l = 10 * l.left + 4
 
-abbrev pub decreases-body_type_message-parent : goal.decreases-body_type_message-parent
-decreases-body_type_message-parent l = 10 * l.left + 5
-
-abbrev pub decreases-body_type_multipart-parent : goal.decreases-body_type_multipart-parent
-decreases-body_type_multipart-parent l = 10 * l.left + 5
-
 abbrev pub decreases-body_type_message : goal.decreases-body_type_message
 decreases-body_type_message l = 10 * l.left + 6
 

@@ -1,25 +1,31 @@
+use Rattle.std.proofs.Common.{Ok}
 use Rattle.grammar.specs.BodyStructure.{body_extension, extension_list}
+use Rattle.table.proofs.Cursors.{went_on}
+use Rattle.table.proofs.Lines.{from_cursor, itself}
 use Rattle.table.proofs.Listable.{listable}
 use Rattle.table.proofs.Opens.{hungry}
 use Rattle.lists.proofs.Lists.{in_parentheses}
 use Rattle.rfc3501_extension.proofs.First.{firsts}
 use Rattle.rfc3501_extension.proofs.+extension_circle.Goals as goal
 
-pub extension-returns-then-s-c : goal.extension-returns-then-s-c
-unfolding hungry body_extension
-extension-returns-then-s-c t c = search firsts
-
-pub extension-returns-then-left-eq0 : goal.extension-returns-then-left-eq0
-extension-returns-then-left-eq0 t c = search firsts
-
-pub extension-returns-then-b-eq40 : goal.extension-returns-then-b-eq40
-extension-returns-then-b-eq40 t c = search firsts
-
-pub extension-returns-then-is_digit : goal.extension-returns-then-is_digit
-extension-returns-then-is_digit t c = search firsts
-
 pub extension-returns : goal.extension-returns
-extension-returns t c = search firsts
+extension-returns t c = from_cursor (went_on c.branch-c.ensures c.in_ok-c.is) c.extension_at.ensures
+
+pub extension_at-returns-then-s-c : goal.extension_at-returns-then-s-c
+unfolding hungry body_extension
+extension_at-returns-then-s-c t c = let on = itself (Ok c.args.c) in search firsts
+
+pub extension_at-returns-then-left-eq0 : goal.extension_at-returns-then-left-eq0
+extension_at-returns-then-left-eq0 t c = let on = itself (Ok c.args.c) in search firsts
+
+pub extension_at-returns-then-b-eq40 : goal.extension_at-returns-then-b-eq40
+extension_at-returns-then-b-eq40 t c = let on = itself (Ok c.args.c) in search firsts
+
+pub extension_at-returns-then-is_digit : goal.extension_at-returns-then-is_digit
+extension_at-returns-then-is_digit t c = let on = itself (Ok c.args.c) in search firsts
+
+pub extension_at-returns : goal.extension_at-returns
+extension_at-returns t c = let on = itself (Ok c.args.c) in search firsts
 
 pub extension_list-parenthesized_nonempty_list-requires-clause-items : goal.extension_list-parenthesized_nonempty_list-requires-clause-items
 unfolding listable body_extension
