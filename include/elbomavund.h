@@ -2,7 +2,7 @@
  * writes, for every rule number, buffer, table and node. Nothing is asked of the caller but that the pointers are good:
  * not NULL (any address will do where the length is 0), aligned, valid for as many elements as is said, and what is
  * written overlaps nothing else. No function allocates, keeps a pointer, or calls anything outside the library but the C
- * library's memset and memcpy. A reading takes some 44 KB of stack.
+ * library's memset and memcpy. A reading takes some 40 KB of stack.
  *
  * Link libreader.a (`oracle/lib` writes it to target/staticlib, for x86-64): cc -Iinclude main.c target/staticlib/libreader.a
  *
