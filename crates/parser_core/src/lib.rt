@@ -141,7 +141,8 @@ pub fn separated<F: Fn(&[u8], IResult, &mut [u32]) -> IResult + Copy>(
     )
 }
 
-// The bytes of a word, ASCII case ignored.
+// The bytes of a word, ASCII case ignored. In line, since most words that are tried do not stand there.
+#[inline(always)]
 pub fn tag_no_case(s: &[u8], c: IResult, word: &[u8]) -> IResult
     requires stands { Stands 0 s.now c }
     requires a_byte { 1 ≤ length word.now }
@@ -446,7 +447,8 @@ pub fn literal_header(s: &[u8], at: usize) -> Result<(usize, u32), Failure>
     line_end(s, next + 1, count)
 }
 
-// literal = "{" number "}" CRLF *CHAR8 ; Number represents the number of CHAR8s
+// literal = "{" number "}" CRLF *CHAR8 ; Number represents the number of CHAR8s. Out of line: within `string_from` it makes every string dearer.
+#[inline(never)]
 pub fn literal(s: &[u8], c: IResult, t: &mut [u32]) -> IResult
     requires { Stands 0 s.now c }
     ensures { Reads 0 literal s.now c result t.old t.new }

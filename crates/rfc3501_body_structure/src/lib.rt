@@ -8,6 +8,7 @@ ghost use Rattle.std.specs.Prelude.{Ok};
 ghost use Rattle.grammar.specs.Notation.{◌⋯◌, ◌or◌, any_case, sp, many1, paren_delimited};
 ghost use Rattle.grammar.specs.Grammar.{ref, a_body};
 ghost use Rattle.grammar.specs.Core.{number, string};
+ghost use Rattle.grammar.specs.Envelope.{envelope};
 ghost use Rattle.grammar.specs.BodyStructure.{body_fields, body_ext_1part, body_ext_mpart, body_type_text, message_fields, body_type_message, body_type_basic, body_type_multipart, msg_att_body_structure};
 ghost use Rattle.table.specs.Promise.{Stands, Reads, Skips};
 
@@ -21,28 +22,42 @@ fn sp_body_fields(s: &[u8], c: IResult, t: &mut [u32]) -> IResult
     parser_core::after(s, c, t, b' ', rfc3501_body_fields::body_fields)
 }
 
-// media-text SP body-fields SP body-fld-lines
-fn text_lines(s: &[u8], c: IResult, t: &mut [u32]) -> IResult
+// SP body-fld-lines [SP body-ext-1part]. This and the two `_rest` group to the right, so that a caller's link can stand before them.
+#[inline(never)]
+fn lines_tail(s: &[u8], c: IResult, t: &mut [u32], left: usize) -> IResult
     requires { Stands 0 s.now c }
-    ensures { Reads 0 (any_case "\"TEXT\"" ⋯ sp ⋯ string ⋯ sp ⋯ body_fields ⋯ sp ⋯ number) s.now c result t.old t.new }
+    ensures { Reads left (sp ⋯ (number ⋯ body_ext_1part)) s.now c result t.old t.new }
 {
-    let c = parser_core::tag_no_case(s, c, b"\"TEXT\"")?;
-    let r = parser_core::sp_string(s, Ok(c), t);
-    let r = sp_body_fields(s, r, t);
-    parser_core::sp_number(s, r, t)
+    let c = parser_core::char(s, c, b' ')?;
+    let c = parser_core::number(s, Ok(c), t)?;
+    rfc3501_extension::body_ext_1part(s, Ok(c), t, left)
+}
+
+// What stands behind a text's word. Only the word's test stands in line, in `body_types`: most bodies are no texts.
+#[inline(never)]
+fn text_rest(s: &[u8], c: Cursor, t: &mut [u32], left: usize) -> IResult
+    requires { Stands 0 s.now (Ok c) }
+    ensures { Reads left (sp ⋯ (string ⋯ (sp ⋯ (body_fields ⋯ (sp ⋯ (number ⋯ body_ext_1part)))))) s.now (Ok c) result t.old t.new }
+{
+    let c = parser_core::char(s, Ok(c), b' ')?;
+    let c = parser_core::string(s, Ok(c), t)?;
+    let c = parser_core::char(s, Ok(c), b' ')?;
+    let c = rfc3501_body_fields::body_fields(s, Ok(c), t)?;
+    lines_tail(s, Ok(c), t, left)
 }
 
 // media-text SP body-fields SP body-fld-lines [SP body-ext-1part]
+#[inline(always)]
 fn text_fields(s: &[u8], c: IResult, t: &mut [u32], left: usize) -> IResult
     requires { Stands 0 s.now c }
     ensures { Reads left (any_case "\"TEXT\"" ⋯ sp ⋯ string ⋯ sp ⋯ body_fields ⋯ sp ⋯ number ⋯ body_ext_1part) s.now c result t.old t.new }
 {
-    let c = text_lines(s, c, t)?;
-    rfc3501_extension::body_ext_1part(s, Ok(c), t, left)
+    let c = parser_core::tag_no_case(s, c, b"\"TEXT\"")?;
+    text_rest(s, c, t, left)
 }
 
 // body-type-text
-#[inline(never)]
+#[inline(always)]
 fn body_type_text(s: &[u8], c: Cursor, t: &mut [u32], left: usize) -> IResult
     requires { Stands 0 s.now (Ok c) }
     ensures { Reads left body_type_text s.now (Ok c) result t.old t.new }
@@ -59,22 +74,14 @@ fn body_type_text(s: &[u8], c: Cursor, t: &mut [u32], left: usize) -> IResult
     )
 }
 
-// media-basic SP body-fields
-fn basic_octets(s: &[u8], c: IResult, t: &mut [u32]) -> IResult
-    requires { Stands 0 s.now c }
-    ensures { Reads 0 (string ⋯ sp ⋯ string ⋯ sp ⋯ body_fields) s.now c result t.old t.new }
-{
-    let c = parser_core::string(s, c, t)?;
-    let r = parser_core::sp_string(s, Ok(c), t);
-    sp_body_fields(s, r, t)
-}
-
 // media-basic SP body-fields [SP body-ext-1part]
 fn basic_fields(s: &[u8], c: IResult, t: &mut [u32], left: usize) -> IResult
     requires { Stands 0 s.now c }
     ensures { Reads left (string ⋯ sp ⋯ string ⋯ sp ⋯ body_fields ⋯ body_ext_1part) s.now c result t.old t.new }
 {
-    let c = basic_octets(s, c, t)?;
+    let c = parser_core::string(s, c, t)?;
+    let c = parser_core::sp_string(s, Ok(c), t)?;
+    let c = sp_body_fields(s, Ok(c), t)?;
     rfc3501_extension::body_ext_1part(s, Ok(c), t, left)
 }
 
@@ -96,16 +103,26 @@ fn body_type_basic(s: &[u8], c: Cursor, t: &mut [u32], left: usize) -> IResult
     )
 }
 
-// media-message SP body-fields SP envelope
+// What stands behind a message's word, up to its envelope, as for a text.
 #[inline(never)]
+fn message_rest(s: &[u8], c: Cursor, t: &mut [u32]) -> IResult
+    requires { Stands 0 s.now (Ok c) }
+    ensures { Reads 0 (sp ⋯ (body_fields ⋯ (sp ⋯ envelope))) s.now (Ok c) result t.old t.new }
+{
+    let c = parser_core::char(s, Ok(c), b' ')?;
+    let c = rfc3501_body_fields::body_fields(s, Ok(c), t)?;
+    let c = parser_core::char(s, Ok(c), b' ')?;
+    rfc3501_envelope::envelope(s, Ok(c), t)
+}
+
+// media-message SP body-fields SP envelope
+#[inline(always)]
 fn message_fields(s: &[u8], c: IResult, t: &mut [u32]) -> IResult
     requires { Stands 0 s.now c }
     ensures { Reads 0 message_fields s.now c result t.old t.new }
 {
     let c = parser_core::tag_no_case(s, c, b"\"MESSAGE\" \"RFC822\"")?;
-    let r = sp_body_fields(s, Ok(c), t);
-    let r = parser_core::char(s, r, b' ');
-    rfc3501_envelope::envelope(s, r, t)
+    message_rest(s, c, t)
 }
 
 // ----- the circle: a body holds messages and multiparts, which hold bodies; `body` begins with its guard, or a failure would walk the levels.
@@ -191,9 +208,8 @@ fn message_body(s: &[u8], c: IResult, t: &mut [u32], left: usize) -> IResult
     ensures { Reads left (message_fields ⋯ sp ⋯ ref a_body ⋯ sp ⋯ number ⋯ body_ext_1part) s.now c result t.old t.new }
 {
     let c = message_fields(s, c, t)?;
-    let r = sp_body(s, Ok(c), t, left);
-    let r = parser_core::sp_number(s, r, t);
-    rfc3501_extension::body_ext_1part(s, r, t, left)
+    let c = sp_body(s, Ok(c), t, left)?;
+    lines_tail(s, Ok(c), t, left)
 }
 
 // SP body

@@ -163,7 +163,8 @@ fn md5_tail(s: &[u8], c: IResult, t: &mut [u32], left: usize) -> IResult
     from_dsp(s, Ok(c), t, left)
 }
 
-// [SP body-ext-1part]
+// [SP body-ext-1part]; in line, since few bodies have one
+#[inline(always)]
 pub fn body_ext_1part(s: &[u8], c: IResult, t: &mut [u32], left: usize) -> IResult
     requires { Stands 5 s.now c }
     ensures { Reads left body_ext_1part s.now c result t.old t.new }

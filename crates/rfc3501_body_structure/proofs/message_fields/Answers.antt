@@ -1,8 +1,9 @@
+use Rattle.grammar.specs.Notation.{sp}
 use Rattle.grammar.specs.BodyStructure.{message_fields}
 use Rattle.table.proofs.Cursors.{went_on, came_back, handed_back}
 use Rattle.table.proofs.Depth.{plain}
-use Rattle.table.proofs.Going.{◌▸◌, ◌▹◌, ◌▸▸◌}
-use Rattle.table.proofs.Lines.{first_link, ended_skims, from_cursor}
+use Rattle.table.proofs.Going.{grouped}
+use Rattle.table.proofs.Lines.{first_link, ended_skims, after_ok_skims}
 use Rattle.rfc3501_body_structure.proofs.message_fields.Goals as goal
 
 pub returns-in_err-c : goal.returns-in_err-c
@@ -10,5 +11,5 @@ unfolding plain first_link message_fields
 returns-in_err-c c = ended_skims _ tt c.tag_no_case.ensures (came_back c.branch-c.ensures c.in_err-c.is) (handed_back c.from_residual.ensures)
 
 pub returns : goal.returns
-unfolding message_fields
-returns c = c.tag_no_case.ensures.on _ ▸▸ from_cursor (went_on c.branch-c.ensures c.in_ok-c.is) c.sp_body_fields-r.ensures ▹ c.char-r.ensures ▸ c.envelope.ensures
+unfolding plain sp message_fields
+returns c = grouped (grouped (grouped (after_ok_skims c.message_rest.ensures (went_on c.branch-c.ensures c.in_ok-c.is) tt c.tag_no_case.ensures)))
