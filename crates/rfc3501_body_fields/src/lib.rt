@@ -2,7 +2,7 @@
 
 #![tactic(auto)]
 
-ghost use Rattle.std.specs.Prelude.{◌≤◌, length};
+ghost use Rattle.std.specs.Prelude.{◌≤◌, length, Ok};
 ghost use Rattle.grammar.specs.Kinds.{kind_pair, kind_disposition, kind_encoding};
 ghost use Rattle.grammar.specs.Scan.{tag_no_case};
 ghost use Rattle.grammar.specs.Grammar.{leaf, mark, does, node, listed};
@@ -11,7 +11,7 @@ ghost use Rattle.grammar.specs.Core.{string};
 ghost use Rattle.grammar.specs.BodyStructure.{body_param, body_disposition, body_lang, encoding_is, known_encoding, body_encoding, body_fields, absents};
 ghost use Rattle.table.specs.Promise.{Stands, Reads};
 
-use table::{Failure, IResult};
+use table::{Cursor, Failure, IResult};
 
 // string SP string
 fn param_fields(s: &[u8], c: IResult, t: &mut [u32]) -> IResult
@@ -23,11 +23,22 @@ fn param_fields(s: &[u8], c: IResult, t: &mut [u32]) -> IResult
 }
 
 // One parameter: a pair.
+#[inline(always)]
 fn param(s: &[u8], c: IResult, t: &mut [u32]) -> IResult
     requires { Stands 0 s.now c }
     ensures { Reads 0 (does (node kind_pair) (string ⋯ sp ⋯ string)) s.now c result t.old t.new }
 {
-    table::parent(s, c, t, grammar::KIND_PAIR, param_fields)
+    let c = c?;
+    param_at(s, c, t)
+}
+
+// The same from a cursor, as `parser_core::nstring` has it.
+#[inline(never)]
+fn param_at(s: &[u8], c: Cursor, t: &mut [u32]) -> IResult
+    requires { Stands 0 s.now (Ok c) }
+    ensures { Reads 0 (does (node kind_pair) (string ⋯ sp ⋯ string)) s.now (Ok c) result t.old t.new }
+{
+    table::parent(s, Ok(c), t, grammar::KIND_PAIR, param_fields)
 }
 
 // "(" string SP string *(SP string SP string) ")"

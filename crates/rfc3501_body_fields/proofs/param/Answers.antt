@@ -1,13 +1,6 @@
-use Rattle.table.proofs.Bounds.{paid}
-use Rattle.table.proofs.Search.{passed}
-use Rattle.grammar.specs.Notation.{◌⋯◌, sp}
-use Rattle.grammar.specs.Core.{string}
+use Rattle.table.proofs.Cursors.{went_on}
+use Rattle.table.proofs.Lines.{from_cursor}
 use Rattle.rfc3501_body_fields.proofs.param.Goals as goal
 
-pub parent-requires-clause-holds : goal.parent-requires-clause-holds
-unfolding paid sp string
-parent-requires-clause-holds c = (0, string ⋯ sp ⋯ string, search passed)
-
 pub returns : goal.returns
-unfolding paid sp string
-returns c = search passed
+returns c = from_cursor (went_on c.branch-c.ensures c.in_ok-c.is) c.param_at.ensures
