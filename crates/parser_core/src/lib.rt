@@ -99,8 +99,8 @@ pub fn char(s: &[u8], c: IResult, b: u8) -> IResult
     }
 }
 
-// This byte, and then what `read` reads. Its instances with a name (`sp_number` and the like) are those that stand in several lines or
-// are passed on.
+// This byte, and then what `read` reads. `sp_number`, `sp_string` and `sp_nstring` are two lines in its place: a reader that is passed is a
+// call more, with its cursor in memory, and most of a body's links are these.
 pub fn after<F: Fn(&[u8], IResult, &mut [u32]) -> IResult>(
     s: &[u8],
     c: IResult,
@@ -307,6 +307,7 @@ pub fn digits_32(s: &[u8], at: usize) -> Result<(usize, u32), Failure>
 }
 
 // number = 1*DIGIT ; Unsigned 32-bit integer
+#[inline(always)]
 pub fn number(s: &[u8], c: IResult, t: &mut [u32]) -> IResult
     requires { Stands 0 s.now c }
     ensures { Reads 0 number s.now c result t.old t.new }
@@ -317,11 +318,13 @@ pub fn number(s: &[u8], c: IResult, t: &mut [u32]) -> IResult
 }
 
 // SP number
+#[inline(always)]
 pub fn sp_number(s: &[u8], c: IResult, t: &mut [u32]) -> IResult
     requires { Stands 0 s.now c }
     ensures { Reads 0 (sp ⋯ number) s.now c result t.old t.new }
 {
-    after(s, c, t, b' ', number)
+    let c = char(s, c, b' ')?;
+    number(s, Ok(c), t)
 }
 
 // same as `number` but 64-bit
@@ -381,7 +384,9 @@ fn quoted_end(s: &[u8], at: usize) -> Result<usize, Failure>
     }
 }
 
-// quoted = DQUOTE *QUOTED-CHAR DQUOTE, where the opening quote was seen
+// quoted = DQUOTE *QUOTED-CHAR DQUOTE, where the opening quote was seen. Out of line and from a cursor: as two numbers it needs no memory on
+// its way, and most strings are read here.
+#[inline(never)]
 fn quoted_from(s: &[u8], c: Cursor, t: &mut [u32]) -> IResult
     requires stands { Stands 0 s.now (Ok c) }
     requires opened { Opened s.now c.place }
@@ -447,7 +452,7 @@ pub fn literal_header(s: &[u8], at: usize) -> Result<(usize, u32), Failure>
     line_end(s, next + 1, count)
 }
 
-// literal = "{" number "}" CRLF *CHAR8 ; Number represents the number of CHAR8s. Out of line: within `string_from` it makes every string dearer.
+// literal = "{" number "}" CRLF *CHAR8 ; Number represents the number of CHAR8s. Out of line: within `string` it makes every string dearer.
 #[inline(never)]
 pub fn literal(s: &[u8], c: IResult, t: &mut [u32]) -> IResult
     requires { Stands 0 s.now c }
@@ -471,15 +476,6 @@ pub fn string(s: &[u8], c: IResult, t: &mut [u32]) -> IResult
     ensures { Reads 0 string s.now c result t.old t.new }
 {
     let c = c?;
-    string_from(s, c, t)
-}
-
-// The same from a cursor, as `nstring_from`.
-#[inline(never)]
-fn string_from(s: &[u8], c: Cursor, t: &mut [u32]) -> IResult
-    requires { Stands 0 s.now (Ok c) }
-    ensures { Reads 0 string s.now (Ok c) result t.old t.new }
-{
     if s.len() <= c.place {
         return Err(Failure::Unfinished { wanted: 0 });
     }
@@ -495,7 +491,8 @@ pub fn sp_string(s: &[u8], c: IResult, t: &mut [u32]) -> IResult
     requires { Stands 0 s.now c }
     ensures { Reads 0 (sp ⋯ string) s.now c result t.old t.new }
 {
-    after(s, c, t, b' ', string)
+    let c = char(s, c, b' ')?;
+    string(s, Ok(c), t)
 }
 
 // ----- astring -----
@@ -568,7 +565,7 @@ pub fn nstring(s: &[u8], c: IResult, t: &mut [u32]) -> IResult
     nstring_from(s, c, t)
 }
 
-// The same from a cursor: as two numbers it needs no memory on its way, and most fields are read here.
+// The same from a cursor, as `quoted_from`.
 #[inline(never)]
 fn nstring_from(s: &[u8], c: Cursor, t: &mut [u32]) -> IResult
     requires { Stands 0 s.now (Ok c) }
@@ -585,11 +582,13 @@ fn nstring_from(s: &[u8], c: Cursor, t: &mut [u32]) -> IResult
 }
 
 // SP nstring
+#[inline(always)]
 pub fn sp_nstring(s: &[u8], c: IResult, t: &mut [u32]) -> IResult
     requires { Stands 0 s.now c }
     ensures { Reads 0 (sp ⋯ nstring) s.now c result t.old t.new }
 {
-    after(s, c, t, b' ', nstring)
+    let c = char(s, c, b' ')?;
+    nstring(s, Ok(c), t)
 }
 
 // ----- text -----

@@ -29,12 +29,12 @@ fn param(s: &[u8], c: IResult, t: &mut [u32]) -> IResult
     ensures { Reads 0 (does (node kind_pair) (string ⋯ sp ⋯ string)) s.now c result t.old t.new }
 {
     let c = c?;
-    param_at(s, c, t)
+    param_from(s, c, t)
 }
 
-// The same from a cursor, as `parser_core::nstring` has it.
+// The same from a cursor, as `parser_core::quoted_from`.
 #[inline(never)]
-fn param_at(s: &[u8], c: Cursor, t: &mut [u32]) -> IResult
+fn param_from(s: &[u8], c: Cursor, t: &mut [u32]) -> IResult
     requires { Stands 0 s.now (Ok c) }
     ensures { Reads 0 (does (node kind_pair) (string ⋯ sp ⋯ string)) s.now (Ok c) result t.old t.new }
 {
@@ -50,11 +50,22 @@ fn some_params(s: &[u8], c: IResult, t: &mut [u32]) -> IResult
 }
 
 // body-fld-param = "(" string SP string *(SP string SP string) ")" / nil
+#[inline(always)]
 pub fn body_param(s: &[u8], c: IResult, t: &mut [u32]) -> IResult
     requires { Stands 0 s.now c }
     ensures { Reads 0 body_param s.now c result t.old t.new }
 {
-    parser_core::nil_or(s, c, t, some_params)
+    let c = c?;
+    body_param_from(s, c, t)
+}
+
+// The same from a cursor, as `parser_core::quoted_from`.
+#[inline(never)]
+fn body_param_from(s: &[u8], c: Cursor, t: &mut [u32]) -> IResult
+    requires { Stands 0 s.now (Ok c) }
+    ensures { Reads 0 body_param s.now (Ok c) result t.old t.new }
+{
+    parser_core::nil_or(s, Ok(c), t, some_params)
 }
 
 // "(" string SP body-fld-param ")"
@@ -167,11 +178,22 @@ fn body_encoding(s: &[u8], c: IResult, t: &mut [u32]) -> IResult
 }
 
 // body-fields = body-fld-param SP body-fld-id SP body-fld-desc SP body-fld-enc SP body-fld-octets
+#[inline(always)]
 pub fn body_fields(s: &[u8], c: IResult, t: &mut [u32]) -> IResult
     requires { Stands 0 s.now c }
     ensures { Reads 0 body_fields s.now c result t.old t.new }
 {
-    let r = body_param(s, c, t);
+    let c = c?;
+    body_fields_from(s, c, t)
+}
+
+// The same from a cursor, as `parser_core::quoted_from`.
+#[inline(never)]
+fn body_fields_from(s: &[u8], c: Cursor, t: &mut [u32]) -> IResult
+    requires { Stands 0 s.now (Ok c) }
+    ensures { Reads 0 body_fields s.now (Ok c) result t.old t.new }
+{
+    let r = body_param(s, Ok(c), t);
     let r = parser_core::sp_nstring(s, r, t);
     let r = parser_core::sp_nstring(s, r, t);
     let r = parser_core::char(s, r, b' ');
@@ -180,7 +202,8 @@ pub fn body_fields(s: &[u8], c: IResult, t: &mut [u32]) -> IResult
     parser_core::number(s, r, t)
 }
 
-// So many fields that are not there.
+// So many fields that are not there; in line, with N known.
+#[inline(always)]
 pub fn absents<const N: usize>(s: &[u8], c: IResult, t: &mut [u32]) -> IResult
     requires { Stands N s.now c }
     ensures { Reads 0 (absents N) s.now c result t.old t.new }

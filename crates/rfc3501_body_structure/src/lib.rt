@@ -8,42 +8,19 @@ ghost use Rattle.std.specs.Prelude.{Ok};
 ghost use Rattle.grammar.specs.Notation.{◌⋯◌, ◌or◌, any_case, sp, many1, paren_delimited};
 ghost use Rattle.grammar.specs.Grammar.{ref, a_body};
 ghost use Rattle.grammar.specs.Core.{number, string};
-ghost use Rattle.grammar.specs.Envelope.{envelope};
 ghost use Rattle.grammar.specs.BodyStructure.{body_fields, body_ext_1part, body_ext_mpart, body_type_text, message_fields, body_type_message, body_type_basic, body_type_multipart, msg_att_body_structure};
 ghost use Rattle.table.specs.Promise.{Stands, Reads, Skips};
 
 use table::{Cursor, Failure, IResult};
 
 // SP body-fields
+#[inline(always)]
 fn sp_body_fields(s: &[u8], c: IResult, t: &mut [u32]) -> IResult
     requires { Stands 0 s.now c }
     ensures { Reads 0 (sp ⋯ body_fields) s.now c result t.old t.new }
 {
-    parser_core::after(s, c, t, b' ', rfc3501_body_fields::body_fields)
-}
-
-// SP body-fld-lines [SP body-ext-1part]. This and the two `_rest` group to the right, so that a caller's link can stand before them.
-#[inline(never)]
-fn lines_tail(s: &[u8], c: IResult, t: &mut [u32], left: usize) -> IResult
-    requires { Stands 0 s.now c }
-    ensures { Reads left (sp ⋯ (number ⋯ body_ext_1part)) s.now c result t.old t.new }
-{
     let c = parser_core::char(s, c, b' ')?;
-    let c = parser_core::number(s, Ok(c), t)?;
-    rfc3501_extension::body_ext_1part(s, Ok(c), t, left)
-}
-
-// What stands behind a text's word. Only the word's test stands in line, in `body_types`: most bodies are no texts.
-#[inline(never)]
-fn text_rest(s: &[u8], c: Cursor, t: &mut [u32], left: usize) -> IResult
-    requires { Stands 0 s.now (Ok c) }
-    ensures { Reads left (sp ⋯ (string ⋯ (sp ⋯ (body_fields ⋯ (sp ⋯ (number ⋯ body_ext_1part)))))) s.now (Ok c) result t.old t.new }
-{
-    let c = parser_core::char(s, Ok(c), b' ')?;
-    let c = parser_core::string(s, Ok(c), t)?;
-    let c = parser_core::char(s, Ok(c), b' ')?;
-    let c = rfc3501_body_fields::body_fields(s, Ok(c), t)?;
-    lines_tail(s, Ok(c), t, left)
+    rfc3501_body_fields::body_fields(s, Ok(c), t)
 }
 
 // media-text SP body-fields SP body-fld-lines [SP body-ext-1part]
@@ -53,7 +30,10 @@ fn text_fields(s: &[u8], c: IResult, t: &mut [u32], left: usize) -> IResult
     ensures { Reads left (any_case "\"TEXT\"" ⋯ sp ⋯ string ⋯ sp ⋯ body_fields ⋯ sp ⋯ number ⋯ body_ext_1part) s.now c result t.old t.new }
 {
     let c = parser_core::tag_no_case(s, c, b"\"TEXT\"")?;
-    text_rest(s, c, t, left)
+    let c = parser_core::sp_string(s, Ok(c), t)?;
+    let c = sp_body_fields(s, Ok(c), t)?;
+    let c = parser_core::sp_number(s, Ok(c), t)?;
+    rfc3501_extension::body_ext_1part(s, Ok(c), t, left)
 }
 
 // body-type-text
@@ -75,6 +55,7 @@ fn body_type_text(s: &[u8], c: Cursor, t: &mut [u32], left: usize) -> IResult
 }
 
 // media-basic SP body-fields [SP body-ext-1part]
+#[inline(always)]
 fn basic_fields(s: &[u8], c: IResult, t: &mut [u32], left: usize) -> IResult
     requires { Stands 0 s.now c }
     ensures { Reads left (string ⋯ sp ⋯ string ⋯ sp ⋯ body_fields ⋯ body_ext_1part) s.now c result t.old t.new }
@@ -86,7 +67,7 @@ fn basic_fields(s: &[u8], c: IResult, t: &mut [u32], left: usize) -> IResult
 }
 
 // body-type-basic
-#[inline(never)]
+#[inline(always)]
 fn body_type_basic(s: &[u8], c: Cursor, t: &mut [u32], left: usize) -> IResult
     requires { Stands 0 s.now (Ok c) }
     ensures { Reads left body_type_basic s.now (Ok c) result t.old t.new }
@@ -103,18 +84,6 @@ fn body_type_basic(s: &[u8], c: Cursor, t: &mut [u32], left: usize) -> IResult
     )
 }
 
-// What stands behind a message's word, up to its envelope, as for a text.
-#[inline(never)]
-fn message_rest(s: &[u8], c: Cursor, t: &mut [u32]) -> IResult
-    requires { Stands 0 s.now (Ok c) }
-    ensures { Reads 0 (sp ⋯ (body_fields ⋯ (sp ⋯ envelope))) s.now (Ok c) result t.old t.new }
-{
-    let c = parser_core::char(s, Ok(c), b' ')?;
-    let c = rfc3501_body_fields::body_fields(s, Ok(c), t)?;
-    let c = parser_core::char(s, Ok(c), b' ')?;
-    rfc3501_envelope::envelope(s, Ok(c), t)
-}
-
 // media-message SP body-fields SP envelope
 #[inline(always)]
 fn message_fields(s: &[u8], c: IResult, t: &mut [u32]) -> IResult
@@ -122,12 +91,14 @@ fn message_fields(s: &[u8], c: IResult, t: &mut [u32]) -> IResult
     ensures { Reads 0 message_fields s.now c result t.old t.new }
 {
     let c = parser_core::tag_no_case(s, c, b"\"MESSAGE\" \"RFC822\"")?;
-    message_rest(s, c, t)
+    let c = sp_body_fields(s, Ok(c), t)?;
+    let c = parser_core::char(s, Ok(c), b' ')?;
+    rfc3501_envelope::envelope(s, Ok(c), t)
 }
 
 // ----- the circle: a body holds messages and multiparts, which hold bodies; `body` begins with its guard, or a failure would walk the levels.
-// Callers' stacks are short: one frame a level, so the two structures in the circle are made by hand, what holds no body stands out of line,
-// and what holds one in line (docs/WORK.md) -----
+// Callers' stacks are short: one frame a level. So the two structures in the circle are made by hand, and what is read of a body stands in line
+// up to its strings, its fields, its envelope and the end of its tail, which do not (docs/WORK.md) -----
 
 // Where no level is left: a `(` is too deep, another byte fails.
 fn too_deep(s: &[u8], c: IResult) -> IResult
@@ -209,7 +180,8 @@ fn message_body(s: &[u8], c: IResult, t: &mut [u32], left: usize) -> IResult
 {
     let c = message_fields(s, c, t)?;
     let c = sp_body(s, Ok(c), t, left)?;
-    lines_tail(s, Ok(c), t, left)
+    let c = parser_core::sp_number(s, Ok(c), t)?;
+    rfc3501_extension::body_ext_1part(s, Ok(c), t, left)
 }
 
 // SP body

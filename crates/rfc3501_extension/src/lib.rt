@@ -23,13 +23,13 @@ fn extension(s: &[u8], c: IResult, t: &mut [u32], left: usize) -> IResult
     ensures { Reads left body_extension s.now c result t.old t.new }
 {
     let c = c?;
-    extension_at(s, c, t, left)
+    extension_from(s, c, t, left)
 }
 
-// The same from a cursor, as `parser_core::nstring` has it.
+// The same from a cursor, as `parser_core::quoted_from`.
 #[cycle(extension_circle)]
 #[inline(never)]
-fn extension_at(s: &[u8], c: Cursor, t: &mut [u32], left: usize) -> IResult
+fn extension_from(s: &[u8], c: Cursor, t: &mut [u32], left: usize) -> IResult
     requires { Stands 0 s.now (Ok c) }
     ensures { Reads left body_extension s.now (Ok c) result t.old t.new }
 {
@@ -37,14 +37,14 @@ fn extension_at(s: &[u8], c: Cursor, t: &mut [u32], left: usize) -> IResult
         return Err(Failure::Unfinished { wanted: 0 });
     }
     let b = s[c.place];
+    if parser_core::is_digit(b) {
+        return parser_core::number(s, Ok(c), t);
+    }
     if b == b'(' {
         if left == 0 {
             return Err(Failure::TooDeep);
         }
         return extension_list(s, Ok(c), t, left - 1);
-    }
-    if parser_core::is_digit(b) {
-        return parser_core::number(s, Ok(c), t);
     }
     parser_core::nstring(s, Ok(c), t)
 }
@@ -66,7 +66,7 @@ fn extension_list(s: &[u8], c: IResult, t: &mut [u32], left: usize) -> IResult
     )
 }
 
-// ----- tails: each field after a space, and only if the one before was read -----
+// ----- tails: each field after a space, and only if the one before was read; a body's first field in line, what is behind it from a cursor -----
 
 // SP body-extension
 fn sp_extension(s: &[u8], c: IResult, t: &mut [u32], left: usize) -> IResult
@@ -143,27 +143,29 @@ fn dsp_tail(s: &[u8], c: IResult, t: &mut [u32], left: usize) -> IResult
 }
 
 // [SP body-fld-dsp ..]
-fn from_dsp(s: &[u8], c: IResult, t: &mut [u32], left: usize) -> IResult
-    requires { Stands 4 s.now c }
-    ensures { Reads left from_dsp s.now c result t.old t.new }
+#[inline(never)]
+fn from_dsp(s: &[u8], c: Cursor, t: &mut [u32], left: usize) -> IResult
+    requires { Stands 4 s.now (Ok c) }
+    ensures { Reads left from_dsp s.now (Ok c) result t.old t.new }
 {
-    let r = dsp_tail(s, c, t, left);
+    let r = dsp_tail(s, Ok(c), t, left);
     let Err(Failure::Refused) = r else {
         return r;
     };
-    rfc3501_body_fields::absents::<4>(s, c, t)
+    rfc3501_body_fields::absents::<4>(s, Ok(c), t)
 }
 
 // SP body-fld-md5 ..
+#[inline(always)]
 fn md5_tail(s: &[u8], c: IResult, t: &mut [u32], left: usize) -> IResult
     requires { Stands 0 s.now c }
     ensures { Reads left (sp ⋯ nstring ⋯ from_dsp) s.now c result t.old t.new }
 {
     let c = parser_core::sp_nstring(s, c, t)?;
-    from_dsp(s, Ok(c), t, left)
+    from_dsp(s, c, t, left)
 }
 
-// [SP body-ext-1part]; in line, since few bodies have one
+// [SP body-ext-1part]
 #[inline(always)]
 pub fn body_ext_1part(s: &[u8], c: IResult, t: &mut [u32], left: usize) -> IResult
     requires { Stands 5 s.now c }
@@ -177,16 +179,18 @@ pub fn body_ext_1part(s: &[u8], c: IResult, t: &mut [u32], left: usize) -> IResu
 }
 
 // SP body-fld-param ..
+#[inline(always)]
 fn param_tail(s: &[u8], c: IResult, t: &mut [u32], left: usize) -> IResult
     requires { Stands 0 s.now c }
     ensures { Reads left (sp ⋯ body_param ⋯ from_dsp) s.now c result t.old t.new }
 {
     let c = parser_core::char(s, c, b' ')?;
-    let r = rfc3501_body_fields::body_param(s, Ok(c), t);
-    from_dsp(s, r, t, left)
+    let c = rfc3501_body_fields::body_param(s, Ok(c), t)?;
+    from_dsp(s, c, t, left)
 }
 
 // [SP body-ext-mpart]
+#[inline(always)]
 pub fn body_ext_mpart(s: &[u8], c: IResult, t: &mut [u32], left: usize) -> IResult
     requires { Stands 5 s.now c }
     ensures { Reads left body_ext_mpart s.now c result t.old t.new }

@@ -1,9 +1,6 @@
-use Rattle.grammar.specs.BodyStructure.{body_param}
-use Rattle.parser_core.proofs.Dispatch.{opening_by}
-use Rattle.table.proofs.Opens.{opens}
-use Rattle.table.proofs.Search.{passed}
+use Rattle.table.proofs.Cursors.{went_on}
+use Rattle.table.proofs.Lines.{from_cursor}
 use Rattle.rfc3501_body_fields.proofs.body_param.Goals as goal
 
 pub returns : goal.returns
-unfolding opens body_param
-returns c = c.nil_or.ensures.goes 0 _ (search passed) (opening_by (λ b p. rw p))
+returns c = from_cursor (went_on c.branch-c.ensures c.in_ok-c.is) c.body_param_from.ensures

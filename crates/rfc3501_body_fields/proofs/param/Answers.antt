@@ -3,4 +3,4 @@ use Rattle.table.proofs.Lines.{from_cursor}
 use Rattle.rfc3501_body_fields.proofs.param.Goals as goal
 
 pub returns : goal.returns
-returns c = from_cursor (went_on c.branch-c.ensures c.in_ok-c.is) c.param_at.ensures
+returns c = from_cursor (went_on c.branch-c.ensures c.in_ok-c.is) c.param_from.ensures

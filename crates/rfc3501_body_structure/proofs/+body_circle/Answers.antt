@@ -3,15 +3,15 @@ use mathlib.Core.Path.{refl}
 use native.Mathlib.Omega.{arith}
 use Rattle.table.specs.declared.Failure.TheVariants.{Refused}
 use Rattle.grammar.specs.Grammar.{ref, a_body}
-use Rattle.grammar.specs.Notation.{◌⋯◌, sp, many1, paren_delimited}
+use Rattle.grammar.specs.Notation.{sp, many1, paren_delimited}
 use Rattle.grammar.specs.Core.{number, string}
-use Rattle.grammar.specs.BodyStructure.{body_ext_1part, body_ext_mpart, message_fields, body_type_text, body_type_message, body_type_multipart}
+use Rattle.grammar.specs.BodyStructure.{message_fields, body_type_text, body_type_message, body_type_multipart}
 use Rattle.table.proofs.Cursors.{went_on, came_back, handed_back}
 use Rattle.table.proofs.Bounds.{paid, leaves_of, within_read}
 use Rattle.table.proofs.Depth.{plain, at_depth}
-use Rattle.table.proofs.Going.{and, early, grouped, ◌▸◌, ◌▸▸◌}
+use Rattle.table.proofs.Going.{and, early, ◌▸◌, ◌▸▸◌}
 use Rattle.table.proofs.Levels.{none_left}
-use Rattle.table.proofs.Lines.{first_link, named_stands, ended_skims, early_back, after_ok, from_cursor, skims_from_cursor, levels_lines}
+use Rattle.table.proofs.Lines.{first_link, named_stands, ended_skims, early_back, from_cursor, skims_from_cursor, levels_lines}
 use Rattle.table.proofs.Listable.{listable}
 use Rattle.table.proofs.Opens.{hungry}
 use Rattle.table.proofs.Search.{reads, structure, passed, first_plain, spare_after}
@@ -69,9 +69,17 @@ pub message_body-returns-in_err-c-2 : goal.message_body-returns-in_err-c-2
 unfolding plain number sp message_fields
 message_body-returns-in_err-c-2 t c = early_back (early (early (first_plain tt c.message_fields.ensures ▸▸ from_cursor (went_on c.branch-c.ensures c.in_ok-c.is) c.sp_body.ensures) (came_back c.branch-c-2.ensures c.in_err-c-2.is)) refl) refl (handed_back c.from_residual-in_err-c-2.ensures)
 
+pub message_body-returns-in_err-c-3 : goal.message_body-returns-in_err-c-3
+unfolding plain number sp message_fields
+message_body-returns-in_err-c-3 t c = early_back (first_plain tt c.message_fields.ensures ▸▸ from_cursor (went_on c.branch-c.ensures c.in_ok-c.is) c.sp_body.ensures ▸▸ from_cursor (went_on c.branch-c-2.ensures c.in_ok-c-2.is) (first_plain tt c.sp_number.ensures)) (came_back c.branch-c-3.ensures c.in_err-c-3.is) (handed_back c.from_residual-in_err-c-3.ensures)
+
+pub message_body-body_ext_1part-requires : goal.message_body-body_ext_1part-requires
+unfolding leaves_of sp number
+message_body-body_ext_1part-requires t c = named_stands (went_on c.branch-c-3.ensures c.in_ok-c-3.is) (spare_after c.sp_number.ensures (named_stands (went_on c.branch-c-2.ensures c.in_ok-c-2.is) c.sp_body.ensures.stands) tt)
+
 pub message_body-returns : goal.message_body-returns
 unfolding plain sp number message_fields
-message_body-returns t c = grouped (grouped (after_ok c.lines_tail.ensures (went_on c.branch-c-2.ensures c.in_ok-c-2.is) (first_plain tt c.message_fields.ensures ▸▸ from_cursor (went_on c.branch-c.ensures c.in_ok-c.is) c.sp_body.ensures)))
+message_body-returns t c = first_plain tt c.message_fields.ensures ▸▸ from_cursor (went_on c.branch-c.ensures c.in_ok-c.is) c.sp_body.ensures ▸▸ from_cursor (went_on c.branch-c-2.ensures c.in_ok-c-2.is) (first_plain tt c.sp_number.ensures) ▸ from_cursor (went_on c.branch-c-3.ensures c.in_ok-c-3.is) c.body_ext_1part.ensures
 
 pub sp_body-returns-in_err-c : goal.sp_body-returns-in_err-c
 unfolding plain first_link sp

@@ -9,23 +9,23 @@ use Rattle.rfc3501_extension.proofs.First.{firsts}
 use Rattle.rfc3501_extension.proofs.+extension_circle.Goals as goal
 
 pub extension-returns : goal.extension-returns
-extension-returns t c = from_cursor (went_on c.branch-c.ensures c.in_ok-c.is) c.extension_at.ensures
+extension-returns t c = from_cursor (went_on c.branch-c.ensures c.in_ok-c.is) c.extension_from.ensures
 
-pub extension_at-returns-then-s-c : goal.extension_at-returns-then-s-c
+pub extension_from-returns-then-s-c : goal.extension_from-returns-then-s-c
 unfolding hungry body_extension
-extension_at-returns-then-s-c t c = let on = itself (Ok c.args.c) in search firsts
+extension_from-returns-then-s-c t c = let on = itself (Ok c.args.c) in search firsts
 
-pub extension_at-returns-then-left-eq0 : goal.extension_at-returns-then-left-eq0
-extension_at-returns-then-left-eq0 t c = let on = itself (Ok c.args.c) in search firsts
+pub extension_from-returns-then-left-eq0 : goal.extension_from-returns-then-left-eq0
+extension_from-returns-then-left-eq0 t c = let on = itself (Ok c.args.c) in search firsts
 
-pub extension_at-returns-then-b-eq40 : goal.extension_at-returns-then-b-eq40
-extension_at-returns-then-b-eq40 t c = let on = itself (Ok c.args.c) in search firsts
+pub extension_from-returns-then-b-eq40 : goal.extension_from-returns-then-b-eq40
+extension_from-returns-then-b-eq40 t c = let on = itself (Ok c.args.c) in search firsts
 
-pub extension_at-returns-then-is_digit : goal.extension_at-returns-then-is_digit
-extension_at-returns-then-is_digit t c = let on = itself (Ok c.args.c) in search firsts
+pub extension_from-returns-then-is_digit : goal.extension_from-returns-then-is_digit
+extension_from-returns-then-is_digit t c = let on = itself (Ok c.args.c) in search firsts
 
-pub extension_at-returns : goal.extension_at-returns
-extension_at-returns t c = let on = itself (Ok c.args.c) in search firsts
+pub extension_from-returns : goal.extension_from-returns
+extension_from-returns t c = let on = itself (Ok c.args.c) in search firsts
 
 pub extension_list-parenthesized_nonempty_list-requires-clause-items : goal.extension_list-parenthesized_nonempty_list-requires-clause-items
 unfolding listable body_extension

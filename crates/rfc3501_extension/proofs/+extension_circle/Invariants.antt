@@ -2,8 +2,8 @@
 use Rattle.std.proofs.Common.{◌+◌, ◌*◌}
 use Rattle.rfc3501_extension.proofs.+extension_circle.Given as goal
 
-abbrev pub decreases-extension_at : goal.decreases-extension_at
-decreases-extension_at l = 10 * l.left + 1
+abbrev pub decreases-extension_from : goal.decreases-extension_from
+decreases-extension_from l = 10 * l.left + 1
 
 abbrev pub decreases-extension : goal.decreases-extension
 decreases-extension l = 10 * l.left + 2
